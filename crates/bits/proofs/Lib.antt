@@ -1,0 +1,5 @@
+pub mod Laws
+pub mod Put
+pub mod Window
+pub mod Strings
+pub mod Outcomes

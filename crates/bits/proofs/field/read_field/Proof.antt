@@ -1,0 +1,18 @@
+-- `bits::field::read_field` meets its contract: a place is an octet and a bit within it. Assumes nothing.
+use native.Mathlib.Omega.{arith}
+use Rattle.bits.proofs.Outcomes.{read-wide, read-narrow}
+use borrow.Author.Needs.{needs}
+use Rattle.bits.proofs.field.read_field.Statement.{statement}
+use Rattle.bits.proofs.field.read_field.Tie as tie
+
+returns : tie.Need-returns
+returns c = read-wide _ _ _ (omega arith)
+
+field-in-requires : tie.Need-field-in-requires
+field-in-requires c κs = search needs
+
+returns-2 : tie.Need-returns-2
+returns-2 c = read-narrow _ _ _ (omega arith) (c .field-in .ensures)
+
+pub read-field-spec : {M : Type 1} → statement M
+read-field-spec = tie.close (tie.spec returns field-in-requires returns-2)

@@ -1,0 +1,7 @@
+// Runs the cases of document 01 and cases at the edges of its rules, and prints what each gives. The file `stdout` beside src/ says what
+// they should give, from 01. The cases that 01 marks (*) are proved too: specs/MarkedCases.antt.
+mod fragment_header;
+
+fn main() {
+    fragment_header::run();
+}
