@@ -19,7 +19,7 @@ use Rattle.directory.specs.declared.Directory.{Directory}
 use Rattle.directory.proofs.Row as T
 use Rattle.directory.proofs.Directory as D
 use Rattle.directory.proofs.Directory.Laws as D′
-use Rattle.directory.specs.Directory.{noRow, areaOctets, rowSound, eachSound, sameArea, shareOctet, clash, apartFrom, allApart, indexOf}
+use Rattle.directory.specs.Directory.{noRow, areaOctets, rowSound, eachSound, sameArea, shareOctet, clashes, apartFrom, allApart, indexOf}
 
 -- an array's length, out of what owning the struct tells
 pub rows-length : (d : Directory) (vs : List Val) → Is D.the-row d vs → length (d .rows) ≡ 32
@@ -87,12 +87,12 @@ module _ (a b : Row) {s : Bool} (is : s ≡ sameArea (a .writable) (b .writable)
             let e = ltb-same (a .start - b .start) (b .length) (a .start) (b .start + b .length) (λ j. omega arith) (λ j. omega arith) in
             e ∙ simp (← is, not-false s h, lt-ltb 0 (a .length) (omega arith), lt-ltb 0 (b .length) (omega arith), lt-ltb (b .start) (a .start + a .length) (omega arith)) (and-true-right (ltb (a .start) (b .start + b .length)))
 
-pub clash-id : (a b : Row) → a .id ≡ b .id → true ≡ clash a b
-unfolding clash
+pub clash-id : (a b : Row) → a .id ≡ b .id → true ≡ clashes a b
+unfolding clashes
 clash-id a b e = simp (eq-eqb _ _ e)
 
-pub clash-octet : (a b : Row) {s : Bool} → (a .id ≡ b .id → ⊥) → s ≡ shareOctet a b → s ≡ clash a b
-unfolding clash
+pub clash-octet : (a b : Row) {s : Bool} → (a .id ≡ b .id → ⊥) → s ≡ shareOctet a b → s ≡ clashes a b
+unfolding clashes
 clash-octet a b n e = e ∙ simp (ne-eqb _ _ n)
 
 -- ---- the first n rows of an array, from row i on
@@ -130,11 +130,11 @@ module _ (rows : List Row) (n : ℕ) where
       each-none i e = ap (eachSound f w) (from-none i e)
 
     module _ (row : Row) where
-      apart-step : (j : ℕ) → j < n → apartFrom row (from j) ≡ (not (clash row (getD rows j noRow)) && apartFrom row (from (j + 1)))
+      apart-step : (j : ℕ) → j < n → apartFrom row (from j) ≡ (not (clashes row (getD rows j noRow)) && apartFrom row (from (j + 1)))
       unfolding apartFrom
       apart-step j h = ap (apartFrom row) (from-more j h)
 
-      module _ (j : ℕ) {b : Bool} (h : j < n) (is : b ≡ clash row (getD rows j noRow)) where
+      module _ (j : ℕ) {b : Bool} (h : j < n) (is : b ≡ clashes row (getD rows j noRow)) where
         pub apart-next : b ≡ false → apartFrom row (from j) ≡ apartFrom row (from (j + 1))
         apart-next t = apart-step j h ∙ ap (λ (x : Bool). not x && apartFrom row (from (j + 1))) (sym is ∙ t)
 

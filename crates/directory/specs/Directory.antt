@@ -50,12 +50,12 @@ shareOctet a b =
     && (ltb 0 (a .length) && (ltb 0 (b .length) && (ltb (a .start) (b .start + b .length) && ltb (b .start) (a .start + a .length))))
 
 -- two rows that may not stand in one directory
-unfoldable pub clash : Row → Row → Bool
-clash a b = eqb (a .id) (b .id) || shareOctet a b
+unfoldable pub clashes : Row → Row → Bool
+clashes a b = eqb (a .id) (b .id) || shareOctet a b
 
 unfoldable pub apartFrom : Row → List Row → Bool
 apartFrom a [] = true
-apartFrom a (b ∷ rows) = not (clash a b) && apartFrom a rows
+apartFrom a (b ∷ rows) = not (clashes a b) && apartFrom a rows
 
 unfoldable pub allApart : List Row → Bool
 allApart [] = true

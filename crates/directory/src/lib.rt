@@ -4,7 +4,7 @@ ghost use mathlib.Core.Path.{_≡_};
 ghost use Prim.Native.Nat.{_+_, _≤_};
 ghost use lib.ListN.{length, take};
 ghost use Rattle.directory.specs.Part.{PartOf};
-ghost use Rattle.directory.specs.Directory.{noRow, areaOctets, rowSound, eachSound, sameArea, shareOctet, clash as clashing, allApart, soundDirectory, indexOf, lookupRow, LookedUp, knowing, answerOf, areaOf};
+ghost use Rattle.directory.specs.Directory.{noRow, areaOctets, rowSound, eachSound, sameArea, shareOctet, clashes, allApart, soundDirectory, indexOf, lookupRow, LookedUp, knowing, answerOf, areaOf};
 ghost use Rattle.directory.specs.Gathered.{noDirectory, withRow, gathered, listOf};
 
 // 01's attribute row. A start and a length count octets.
@@ -107,7 +107,7 @@ fn share_octet(a: Row, b: Row) -> bool
 }
 
 fn clash(a: Row, b: Row) -> bool
-    ensures { λ r. ⌜ r ≡ clashing a b ⌝ }
+    ensures { λ r. ⌜ r ≡ clashes a b ⌝ }
 {
     if a.id == b.id {
         return true;

@@ -1,35 +1,11 @@
 // 01, "Fragment header": `read OCTETS: ANSWER`, and `write LAST NUMBER COUNTER into ROOM: ANSWER`.
+use crate::print::decimal;
+use crate::print::octets;
+use crate::print::refused;
+use crate::print::text;
 use header::Header;
 use header::HeaderRead;
 use header::HeaderWritten;
-use libc::STDOUT_FILENO;
-
-fn text(s: &[u8]) {
-    io::write_all(STDOUT_FILENO, s);
-}
-
-fn decimal(n: u64) {
-    io::print_decimal(STDOUT_FILENO, n);
-}
-
-fn octet(o: u8) {
-    text(b" ");
-    io::print_hex(STDOUT_FILENO, o as u64, 2);
-}
-
-fn octets(s: &[u8]) {
-    let mut k: usize = 0;
-    while k < s.len() {
-        octet(s[k]);
-        k += 1;
-    }
-}
-
-fn refused(number: u8) {
-    text(b"refused-");
-    decimal(number as u64);
-    text(b"\n");
-}
 
 fn mark(last: bool) {
     if last {
@@ -53,7 +29,10 @@ fn read(s: &[u8]) {
             decimal(size as u64);
             text(b"\n");
         }
-        HeaderRead::Refused(number) => refused(number),
+        HeaderRead::Refused(number) => {
+            refused(number);
+            text(b"\n");
+        }
     }
 }
 
@@ -80,7 +59,10 @@ fn write(last: bool, number: u8, counter: u32, out: &mut [u8]) {
             octets(out);
             text(b"\n");
         }
-        HeaderWritten::Refused(number) => refused(number),
+        HeaderWritten::Refused(number) => {
+            refused(number);
+            text(b"\n");
+        }
     }
 }
 

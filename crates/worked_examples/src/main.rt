@@ -1,7 +1,10 @@
 // Runs the cases of document 01 and cases at the edges of its rules, and prints what each gives. The file `stdout` beside src/ says what
 // they should give, from 01. The cases that 01 marks (*) are proved too: specs/MarkedCases.antt.
 mod fragment_header;
+mod message;
+mod print;
 
 fn main() {
     fragment_header::run();
+    message::run();
 }

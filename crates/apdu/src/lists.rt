@@ -1,0 +1,58 @@
+// The rows and entries that stand beside a message.
+ghost use mathlib.Core.Path.{_≡_};
+ghost use lib.ListN.{replicate};
+ghost use Rattle.apdu.specs.Values.{emptyRow, emptyEntry};
+
+// An attribute and its container: n is a string's length, an EID, or a count; a list of n rows is followed by its rows.
+pub struct Row {
+    pub id: u8,
+    pub kind: u8,
+    pub n: u8,
+    pub start: usize,
+}
+
+// An application entry; kind, n and start are its parameter, and rows tells how many of the message's rows belong to it, nested ones too.
+pub struct Entry {
+    pub has_eid: bool,
+    pub has_parameter: bool,
+    pub aid: u8,
+    pub eid: u8,
+    pub kind: u8,
+    pub n: u8,
+    pub start: usize,
+    pub rows: u8,
+}
+
+// The entries and rows of a message, in its order; unused ones are 0.
+pub struct Lists {
+    pub entries: [Entry; 32],
+    pub rows: [Row; 32],
+}
+
+// Rows of which none is used.
+pub fn no_rows() -> [Row; 32]
+    ensures { λ r. ⌜ r ≡ replicate 32 emptyRow ⌝ }
+{
+    [Row {
+        id: 0,
+        kind: 0,
+        n: 0,
+        start: 0,
+    }; 32]
+}
+
+// Entries of which none is used.
+pub fn no_entries() -> [Entry; 32]
+    ensures { λ r. ⌜ r ≡ replicate 32 emptyEntry ⌝ }
+{
+    [Entry {
+        has_eid: false,
+        has_parameter: false,
+        aid: 0,
+        eid: 0,
+        kind: 0,
+        n: 0,
+        start: 0,
+        rows: 0,
+    }; 32]
+}

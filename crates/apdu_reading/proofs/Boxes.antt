@@ -1,0 +1,139 @@
+-- Containers and attribute lists with all their rows: what was announced is read behind what announced it.
+-- Assumes nothing.
+use Prim.Native.Nat.{ℕ, zero, suc, _+_, _-_, _≤_}
+use mathlib.Core.Path.{_≡_, refl, ap, sym, _∙_}
+use mathlib.Core.List.{List, [], _∷_, _++_, append-assoc, append-nil}
+use mathlib.Core.Bool.{Bool, true, false}
+use native.Mathlib.Omega.{arith}
+use lib.ListN.{length, getD, take, replicate}
+use lib.Dec.{eqb}
+use borrow.Author.Tests.{eq-eqb}
+use Rattle.refusals.specs.Check.{pick}
+use Rattle.bits.specs.Bits.{bits}
+use Rattle.apdu_format.specs.Component.{Component, container}
+use Rattle.apdu_format.specs.Rules.{times}
+use Rattle.apdu_format.specs.Reading.{Value, State}
+use Rattle.apdu_format.proofs.Runs.{runs-none}
+use Rattle.apdu.specs.declared.lists.Row.{Row}
+use Rattle.apdu.specs.Values.{num, if, headValues, rowValues, rowsValues, emptyRow}
+use Rattle.apdu_reading.specs.declared.cursor.Cursor.{Cursor}
+use Rattle.apdu_reading.specs.declared.container.Head.{Head}
+use Rattle.apdu_reading.specs.declared.container.Due.{Due}
+use Rattle.apdu_reading.specs.declared.rows.Rows.{Rows}
+use Rattle.apdu_reading.specs.Cursor.{stateOf, Reads}
+use Rattle.apdu_reading.specs.Rows.{row, nested, total, dueList}
+use Rattle.apdu_reading.specs.Lists.{Leads, Ready, Filled}
+use Rattle.apdu_reading.specs.Optional.{HeadMaybe, AttributesMaybe}
+use Rattle.apdu_reading.specs.Boxed.{Boxed, Listed}
+use Rattle.apdu_reading.proofs.Chains.{valued}
+
+-- ---- leads and readings
+
+pub and-then : {s : List ℕ} {is js : List Component} {c d r : Cursor} {vs ws : List Value} → Leads s is c js d vs → Reads s js d r ws → Reads s is c r (vs ++ ws)
+and-then {s} {is} {js} {c} {d} {r} {vs} {ws} p q =
+    record { so = λ log. p .so log ∙ q .so (log ++ vs) ∙ ap (stateOf r) (append-assoc log vs ws) }
+
+-- where nothing is read, nothing is found
+pub found-nothing : {s : List ℕ} {c r : Cursor} {vs : List Value} → Reads s [] c r vs → r .fault ≡ 0 → vs ≡ []
+unfolding stateOf
+found-nothing {s} {c} {r} {vs} p h =
+    let e : stateOf c [] ≡ stateOf r vs = sym (runs-none (bits s) (stateOf c [])) ∙ p .so [] in
+    let f : c .fault ≡ 0 = ap (λ (d : State). d .fault) e ∙ h in
+    let g : pick (eqb (c .fault) 0) [] [] ≡ pick (eqb (r .fault) 0) vs [] = ap (λ (d : State). d .log) e in
+    sym (rw (eq-eqb _ _ f, eq-eqb _ _ h) at g)
+
+-- ---- rows of which none is used
+
+pub empty : (n j : ℕ) → getD (replicate n emptyRow) j emptyRow ≡ emptyRow
+empty zero j = refl
+empty (suc n) zero = refl
+empty (suc n) (suc j) = empty n j
+
+abbrev rowsAt : Cursor → ℕ → List Row → Rows
+rowsAt c used rows = record { cursor = c; used = used; rows = rows }
+
+pub fresh : (o : Due) (c : Cursor) {rows : List Row} → rows ≡ replicate 32 emptyRow → (c .fault ≡ 0 → total o + c .room ≡ 32) → Ready o (rowsAt c 0 rows)
+fresh o c e h =
+    rw e (record { sum = λ z. let a = h z in omega arith; rest = record { rest = λ j w. empty 32 j }; long = refl; few = omega arith })
+
+-- no values, no rows
+pub no-rows : (s : List ℕ) (n : ℕ) (rs : List Row) → rowsValues s (take n rs) ≡ [] → n ≤ length rs → n ≡ 0
+unfolding rowsValues rowValues
+no-rows s zero rs h k = refl
+no-rows s (suc n) [] h k = absurd (omega arith)
+no-rows s (suc n) (r ∷ rs) h k = let z : _≡_ {A = ℕ} 0 1 = cc in absurd (omega arith)
+
+abbrev pub two : ℕ → Due
+two n = record { d1 = 0; d2 = n; d3 = 0; d4 = 0; d5 = 0 }
+
+abbrev one : ℕ → Due
+one n = record { d1 = n; d2 = 0; d3 = 0; d4 = 0; d5 = 0 }
+
+pub due-two : (n : ℕ) → dueList (two n) ≡ times n (row 2)
+unfolding dueList times
+due-two n = append-nil (times n (row 2))
+
+due-one : (n : ℕ) → dueList (one n) ≡ times n (row 1)
+unfolding dueList times
+due-one n = refl
+
+pub if-join : (p : Bool) (vs ws : List Value) → (p ≡ false → ws ≡ []) → if p vs ++ ws ≡ if p (vs ++ ws)
+if-join true vs ws h = refl
+if-join false vs ws h = h refl
+
+-- ---- a container with its rows
+
+module _ (s : List ℕ) (p : Bool) (c : Cursor) {h : Head} (m : HeadMaybe s p c h) {n : ℕ} (e : n ≡ nested (h .kind) (h .n)) where
+  pub box-ready : {rows : List Row} → c .room ≡ 32 → rows ≡ replicate 32 emptyRow → Ready (two n) (rowsAt (h .cursor) 0 rows)
+  box-ready r f = fresh (two n) (h .cursor) f (λ z. let a = m .room z in omega arith)
+
+  module _ {rows : List Row} {q : Rows} (f : Filled s (two n) (rowsAt (h .cursor) 0 rows) q) where
+    rows-read : Reads s (times (nested (h .kind) (h .n)) (row 2)) (h .cursor) (q .cursor) (rowsValues s (take (q .used) (q .rows)))
+    rows-read = rw (ap (λ (k : ℕ). times k (row 2)) (sym e) ∙ sym (due-two n)) (f .reads)
+
+    none-found : p ≡ false → q .cursor .fault ≡ 0 → rowsValues s (take (q .used) (q .rows)) ≡ []
+    unfolding times
+    none-found z g =
+        let a = m .absent z in
+        let b : nested (h .kind) (h .n) ≡ 0 = rw (a .0) in
+        found-nothing (rw b at rows-read) g
+
+    pub boxed : Boxed s p c (record { kind = h .kind; n = h .n; start = h .start; rows = q })
+    boxed =
+        record {
+          reads = valued (λ g. if-join p (headValues s (h .kind) (h .n) (h .start)) (rowsValues s (take (q .used) (q .rows))) (λ z. none-found z g)) (and-then (m .leads) rows-read);
+          absent = m .absent;
+          kept =
+              record {
+                rest = f .rest;
+                none = λ z g. no-rows s (q .used) (q .rows) (none-found z g) (let l = f .long in let u = f .few in omega arith);
+                few = f .few;
+              };
+        }
+
+-- ---- an attribute list with its rows
+
+module _ (s : List ℕ) (p : Bool) (c : Cursor) {d : Cursor} (m : AttributesMaybe s p c d) where
+  pub list-ready : {rows : List Row} → c .room ≡ 32 → rows ≡ replicate 32 emptyRow → Ready (one (d .value)) (rowsAt d 0 rows)
+  list-ready r f = fresh (one (d .value)) d f (λ z. let a = m .room z in omega arith)
+
+  module _ {rows : List Row} {q : Rows} (f : Filled s (one (d .value)) (rowsAt d 0 rows) q) where
+    list-read : Reads s (times (d .value) (row 1)) d (q .cursor) (rowsValues s (take (q .used) (q .rows)))
+    list-read = rw (sym (due-one (d .value))) (f .reads)
+
+    nothing-found : p ≡ false → q .cursor .fault ≡ 0 → rowsValues s (take (q .used) (q .rows)) ≡ []
+    unfolding times
+    nothing-found z g = found-nothing (rw (m .absent z) at list-read) g
+
+    pub listed : Listed s p c (record { count = d .value; rows = q })
+    listed =
+        record {
+          reads = valued (λ g. if-join p (num (d .value) ∷ []) (rowsValues s (take (q .used) (q .rows))) (λ z. nothing-found z g)) (and-then (m .leads) list-read);
+          absent = m .absent;
+          kept =
+              record {
+                rest = f .rest;
+                none = λ z g. no-rows s (q .used) (q .rows) (nothing-found z g) (let l = f .long in let u = f .few in omega arith);
+                few = f .few;
+              };
+        }

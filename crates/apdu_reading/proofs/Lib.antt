@@ -1,0 +1,17 @@
+pub mod Pieces
+pub mod Components
+pub mod Numbers
+pub mod Chains
+pub mod Strings
+pub mod Containers
+pub mod Walk
+pub mod Fill
+pub mod Absent
+pub mod Boxes
+pub mod Leads
+pub mod ServiceMessages
+pub mod EntryLaws
+pub mod StoreLaws
+pub mod LinkLaws
+pub mod FrontLaws
+pub mod Encoded

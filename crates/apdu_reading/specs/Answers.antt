@@ -1,0 +1,58 @@
+-- What the reader's answer says, in the words of apdu_format's definitions: for each of its cases 01's number and position, or the message's values in
+-- their order and the place behind them. Tidy says the rest: absent fields, unused rows and entries are 0, and so is everything beside a refusal.
+-- Assumes nothing.
+use Prim.Native.Nat.{ℕ}
+use mathlib.Core.Path.{_≡_}
+use mathlib.Core.List.{List}
+use lib.ListN.{replicate}
+use lib.Dec.{eqb}
+use Rattle.refusals.specs.Check.{pick}
+use Rattle.apdu_format.specs.Component.{choice}
+use Rattle.apdu_format.specs.Reading.{Outcome, refused, message, readFront}
+use Rattle.apdu.specs.declared.lists.Lists.{Lists}
+use Rattle.apdu.specs.declared.records.Message.{Message}
+use Rattle.apdu.specs.Values.{valuesOf, emptyRow, emptyEntry}
+use Rattle.apdu.specs.Tidy.{messageTidy, EntriesTidy, RowsTidy}
+use Rattle.apdu_reading.specs.declared.cursor.Cursor.{Cursor}
+use Rattle.apdu_reading.specs.declared.front.Answer.{Answer}
+use Rattle.apdu_reading.specs.declared.front.Answer.the-variants as answer
+use Rattle.apdu_reading.specs.declared.front.Reading.{Reading}
+use Rattle.apdu_reading.specs.Cursor.{cursor, component}
+
+unfoldable pub told : List ℕ → Lists → ℕ → Answer → Outcome
+told s l end (answer.Message m) = message (valuesOf s m (l .entries) (l .rows)) end
+told s l end (answer.Refused k p) = refused k p
+
+unfoldable pub outcomeOf : List ℕ → Reading → Outcome
+outcomeOf s r = told s (r .lists) (r .end) (r .answer)
+
+unfoldable pub tidyBy : Lists → ℕ → Answer → Type 0
+tidyBy l end (answer.Message m) = messageTidy m (l .entries) (l .rows)
+tidyBy l end (answer.Refused k p) = (end ≡ 0) × EntriesTidy 0 (l .entries) × RowsTidy 0 (l .rows)
+
+pub record Tidy (r : Reading) : Type 0 where
+  pub is : tidyBy (r .lists) (r .end) (r .answer)
+
+-- ---- within the crate
+
+abbrev pub noLists : Lists
+noLists = record { entries = replicate 32 emptyEntry; rows = replicate 32 emptyRow }
+
+unfoldable pub refusal : ℕ → ℕ → Reading
+refusal k p = record { answer = answer.Refused k p; end = 0; lists = noLists }
+
+unfoldable pub ended : Cursor → Message → Lists → Reading
+ended c m l = pick (eqb (c .fault) 0) (record { answer = answer.Message m; end = c .at; lists = l }) (refusal (c .fault) (c .position))
+
+-- the cursor at the front of a message
+abbrev pub first : Cursor
+first = cursor 0 0 32 0 0 0 0
+
+-- a choice was read
+pub record Chosen (s : List ℕ) (c : Cursor) : Type 0 where
+  pub is : c ≡ component s choice first
+  pub clean : c .fault ≡ 0
+
+pub record FrontRead (s : List ℕ) (r : Reading) : Type 0 where
+  pub outcome : outcomeOf s r ≡ readFront s
+  pub tidy : Tidy r

@@ -1,0 +1,90 @@
+-- Application entries as they are read and stored. No public contract cites these.
+-- Assumes nothing.
+use Prim.Native.Nat.{ℕ, _+_, _-_, _≤_}
+use mathlib.Core.Path.{_≡_}
+use mathlib.Core.List.{List, [], _∷_}
+use mathlib.Core.Bool.{Bool, false}
+use lib.ListN.{length, getD, take}
+use Rattle.apdu_format.specs.Component.{entryCount, entry, class}
+use Rattle.apdu_format.specs.Reading.{fields}
+use Rattle.apdu_format.specs.Rules.{when, times}
+use Rattle.apdu.specs.Values.{bitOf, num, num-if, if, entryValues, entriesValues, rowsOf, emptyEntry}
+use Rattle.apdu.specs.Tidy.{Absent, RowsTidy, EntriesTidy, entryTidy}
+use Rattle.apdu_reading.specs.declared.cursor.Cursor.{Cursor}
+use Rattle.apdu_reading.specs.declared.rows.Rows.{Rows}
+use Rattle.apdu_reading.specs.declared.applications.EntryHead.{EntryHead}
+use Rattle.apdu_reading.specs.declared.applications.EntryRead.{EntryRead}
+use Rattle.apdu_reading.specs.declared.applications.Applications.{Applications}
+use Rattle.apdu_reading.specs.declared.link.AppList.{AppList}
+use Rattle.apdu_reading.specs.declared.link.Configuration.{Configuration}
+use Rattle.apdu_reading.specs.Cursor.{Reads}
+use Rattle.apdu_reading.specs.Rows.{row}
+use Rattle.apdu_reading.specs.Lists.{Leads, between}
+
+-- an entry up to its rows
+pub record EntryOpens (s : List ℕ) (c : Cursor) (r : EntryHead) : Type 0 where
+  pub leads : Leads s (entry ∷ []) c (times (r .due) (row 2)) (r .cursor) (entryValues s (r .entry) [])
+  pub room : r .cursor .fault ≡ 0 → r .cursor .room + r .due ≡ c .room
+  pub clean : r .cursor .fault ≡ 0 → c .fault ≡ 0
+  pub eid : Absent (r .entry .«has_eid») (r .entry .eid ∷ [])
+  pub parameter : Absent (r .entry .«has_parameter») (r .entry .kind ∷ r .entry .n ∷ r .entry .start ∷ r .due ∷ [])
+
+-- rows behind which more may be stored
+pub record Open (r : Rows) : Type 0 where
+  pub sum : r .cursor .fault ≡ 0 → r .cursor .room + r .used ≡ 32
+  pub rest : RowsTidy (r .used) (r .rows)
+  pub long : length (r .rows) ≡ 32
+  pub few : r .used ≤ 32
+
+-- from r to q rows were stored behind those of r
+pub record Grown (r q : Rows) : Type 0 where
+  pub free : Open q
+  pub more : r .used ≤ q .used
+  pub kept : take (r .used) (q .rows) ≡ take (r .used) (r .rows)
+
+-- an entry with its rows
+pub record EntryWhole (s : List ℕ) (r : Rows) (q : EntryRead) : Type 0 where
+  pub reads : Reads s (entry ∷ []) (r .cursor) (q .rows .cursor) (entryValues s (q .entry) (between (r .used) (q .rows .used) (q .rows .rows)))
+  pub grown : Grown r (q .rows)
+  pub rows : r .used + q .entry .rows ≡ q .rows .used
+  pub tidy : q .rows .cursor .fault ≡ 0 → entryTidy (q .entry)
+
+-- entries from place base on
+pub record StoreReady (base : ℕ) (a : Applications) : Type 0 where
+  pub free : Open (a .rows)
+  pub rest : EntriesTidy base (a .entries)
+  pub long : length (a .entries) ≡ 32
+  pub each : a .rows .cursor .fault ≡ 0 → (j : ℕ) → entryTidy (getD (a .entries) j emptyEntry)
+
+pub record Stored (s : List ℕ) (base : ℕ) (a : Applications) (n : ℕ) (r : Applications) : Type 0 where
+  pub reads : Reads s (times n (entry ∷ [])) (a .rows .cursor) (r .rows .cursor)
+      (entriesValues s (between base (base + n) (r .entries)) (between (a .rows .used) (r .rows .used) (r .rows .rows)))
+  pub grown : Grown (a .rows) (r .rows)
+  pub ready : StoreReady (base + n) r
+  pub rows : a .rows .used + rowsOf (between base (base + n) (r .entries)) ≡ r .rows .used
+  pub kept : take base (r .entries) ≡ take base (a .entries)
+
+-- the count of an application list, if it is there
+pub record CountMaybe (s : List ℕ) (p : Bool) (c r : Cursor) : Type 0 where
+  pub leads : Leads s (when p (entryCount ∷ [])) c (times (r .value) (entry ∷ [])) r (num-if p (r .value))
+  pub room : r .room ≡ c .room
+  pub small : r .value ≤ 16
+  pub clean : r .fault ≡ 0 → c .fault ≡ 0
+  pub absent : p ≡ false → r .value ≡ 0
+
+-- an application list, if it is there, stored behind those of a
+pub record ListMaybe (s : List ℕ) (p : Bool) (base : ℕ) (a : Applications) (r : AppList) : Type 0 where
+  pub reads : Reads s (when p (entryCount ∷ [])) (a .rows .cursor) (r .list .rows .cursor)
+      (if p (num (r .count) ∷ entriesValues s (between base (base + r .count) (r .list .entries)) (between (a .rows .used) (r .list .rows .used) (r .list .rows .rows))))
+  pub grown : Grown (a .rows) (r .list .rows)
+  pub ready : StoreReady (base + r .count) (r .list)
+  pub rows : a .rows .used + rowsOf (between base (base + r .count) (r .list .entries)) ≡ r .list .rows .used
+  pub kept : take base (r .list .entries) ≡ take base (a .entries)
+  pub small : r .count ≤ 16
+  pub absent : p ≡ false → r .count ≡ 0
+
+-- the configuration of a VST
+pub record ConfigurationRead (s : List ℕ) (c : Cursor) (r : Configuration) : Type 0 where
+  pub reads : Reads s (class ∷ []) c (r .cursor)
+      (fields (bitOf (r .«has_status») ∷ r .class ∷ []) ∷ fields (r .maker ∷ []) ∷ if (r .«has_status») (fields (r .status ∷ []) ∷ []))
+  pub absent : Absent (r .«has_status») (r .status ∷ [])

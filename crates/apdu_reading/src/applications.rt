@@ -1,0 +1,131 @@
+// Application lists: entries, each with the rows of its parameter.
+ghost use mathlib.Core.Path.{_≡_};
+ghost use mathlib.Core.List.{[], _∷_};
+ghost use mathlib.Core.Bool.{true, false};
+ghost use Prim.Native.Nat.{_+_, _≤_};
+ghost use lib.ListN.{length};
+ghost use Rattle.apdu_reading.specs.Applications.{EntryOpens, Open, EntryWhole, Stored, StoreReady, CountMaybe};
+use crate::component::count;
+use crate::component::entry_octet;
+use crate::container::Due;
+use crate::container::announces;
+use crate::cursor::Cursor;
+use crate::cursor::marked;
+use crate::optional::container_if;
+use crate::optional::integer_if;
+use crate::rows::Rows;
+use crate::rows::fill;
+use apdu::Entry;
+
+// An entry up to its rows, of which `due` are announced.
+pub struct EntryHead {
+    pub cursor: Cursor,
+    pub entry: Entry,
+    pub due: u64,
+}
+
+pub(crate) fn entry_head(s: &[u8], c: Cursor) -> EntryHead
+    requires { ⌜ length (now s) ≤ 512 ⌝ }
+    ensures { λ r. ⌜ EntryOpens (now (s .entry)) c r ⌝ }
+{
+    let octet = entry_octet(s, c);
+    let has_eid = octet.value / 128 == 1;
+    let has_parameter = octet.value / 64 % 2 == 1;
+    let eid = integer_if(s, has_eid, octet);
+    let h = container_if(s, has_parameter, eid);
+    let due = announces(h.kind, h.n);
+    let cursor = h.cursor;
+    let entry = Entry {
+        has_eid,
+        has_parameter,
+        aid: (octet.value % 32) as u8,
+        eid: eid.value as u8,
+        kind: h.kind as u8,
+        n: h.n as u8,
+        start: h.start,
+        rows: 0,
+    };
+    EntryHead { cursor, entry, due }
+}
+
+pub struct EntryRead {
+    pub entry: Entry,
+    pub rows: Rows,
+}
+
+// An entry with its rows, stored behind those that are read.
+pub(crate) fn whole_entry(s: &[u8], r: Rows) -> EntryRead
+    requires { ⌜ (length (now s) ≤ 512) × Open r ⌝ }
+    ensures { λ q. ⌜ EntryWhole (now (s .entry)) r q ⌝ }
+{
+    let before = r.used;
+    let c = r.cursor;
+    let h = entry_head(s, c);
+    let cursor = h.cursor;
+    let stored = r.rows;
+    let rows = fill(
+        s,
+        Due {
+            d1: 0,
+            d2: h.due,
+            d3: 0,
+            d4: 0,
+            d5: 0,
+        },
+        Rows {
+            cursor,
+            used: before,
+            rows: stored,
+        },
+    );
+    let e = h.entry;
+    let entry = Entry {
+        has_eid: e.has_eid,
+        has_parameter: e.has_parameter,
+        aid: e.aid,
+        eid: e.eid,
+        kind: e.kind,
+        n: e.n,
+        start: e.start,
+        rows: (rows.used - before) as u8,
+    };
+    EntryRead { entry, rows }
+}
+
+// The entries and rows read so far.
+pub struct Applications {
+    pub rows: Rows,
+    pub entries: [Entry; 32],
+}
+
+// `n` entries, stored from place `base` on.
+pub(crate) fn entries(s: &[u8], base: u64, n: u64, a: Applications) -> Applications
+    requires { ⌜ (length (now s) ≤ 512) × (base + n ≤ 32) × StoreReady base a ⌝ }
+    ensures { λ r. ⌜ Stored (now (s .entry)) base a n r ⌝ }
+{
+    let mut rows = a.rows;
+    let mut list = a.entries;
+    let mut i: u64 = 0;
+    while i < n {
+        let t = whole_entry(s, rows);
+        let entry = t.entry;
+        rows = t.rows;
+        list[(base + i) as usize] = entry;
+        i += 1;
+    }
+    Applications {
+        rows,
+        entries: list,
+    }
+}
+
+// The count of an application list, which is the value afterwards.
+pub(crate) fn count_if(s: &[u8], p: bool, c: Cursor) -> Cursor
+    requires { ⌜ length (now s) ≤ 512 ⌝ }
+    ensures { λ r. ⌜ CountMaybe (now (s .entry)) p c r ⌝ }
+{
+    if p {
+        return count(s, c);
+    }
+    marked(c, 0, 0)
+}

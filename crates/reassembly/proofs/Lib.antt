@@ -1,0 +1,15 @@
+pub mod Perm
+pub mod Views
+pub mod Changes
+pub mod Pairs
+pub mod Joins
+pub mod Passed
+pub mod Steps
+pub mod Balance
+pub mod Accounts
+pub mod HeldLaws
+pub mod Splits
+pub mod Theorem
+pub mod Accepting
+pub mod Headed
+pub mod CallLaws

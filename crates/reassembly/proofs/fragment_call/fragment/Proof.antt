@@ -1,0 +1,110 @@
+-- The two lists of checks are one behind the other, and what no check refuses is taken as defined; demand 3 holds of every run of such calls.
+use mathlib.Core.Path.{_≡_}
+use lib.ListN.{length}
+use Rattle.slots.proofs.Tests.{long}
+use Rattle.reassembly.proofs.Theorem.{demanded}
+use Rattle.reassembly.proofs.CallLaws.{early-is, early-refuses, look, late-refuses, refusal-gives, octets-in, asks, gives}
+use borrow.Author.Needs.{needs}
+use Rattle.reassembly.proofs.fragment_call.fragment.Statement.{statement}
+use Rattle.reassembly.proofs.fragment_call.fragment.Tie as tie
+
+sound-requires : tie.Need-sound-requires
+sound-requires c κs = search needs
+
+lsdu-refusal-requires : tie.Need-lsdu-refusal-requires
+lsdu-refusal-requires c κs = search needs
+
+refusal-requires : tie.Need-refusal-requires
+refusal-requires c κs = search needs
+
+returns : tie.Need-returns
+returns c =
+    let a = c .before .before .before .before .before .before .before .args in
+    let early = early-is (a .lid) (a .tick) (a .lsdu .now) (a .table) (a .store .now) (a .output .now) (c .before .before .before .sound .result) (c .before .before .lsdu-refusal .result) (c .before .before .before .sound .ensures) (c .before .before .lsdu-refusal .ensures) in
+    (demanded, refusal-gives (a .lid) (a .tick) (a .lsdu .now) (a .table) (a .store .now) (a .output .now) (c .before .before .lsdu-refusal .result) (c .refusal .result) (early-refuses (a .lid) (a .tick) (a .lsdu .now) (a .table) (a .store .now) (a .output .now) (c .before .before .lsdu-refusal .result) early (c .before .if1 .taken)) (c .before .if1 .taken) (c .refusal .ensures))
+
+fragment-in-requires : tie.Need-fragment-in-requires
+fragment-in-requires c κs = search needs
+
+find-requires : tie.Need-find-requires
+find-requires c κs = search needs
+
+slot-at-requires : tie.Need-slot-at-requires
+slot-at-requires c κs = search needs
+
+facts-of-requires : tie.Need-facts-of-requires
+facts-of-requires c κs = search needs
+
+fragment-refusal-requires : tie.Need-fragment-refusal-requires
+fragment-refusal-requires c κs = search needs
+
+refusal-requires-2 : tie.Need-refusal-requires-2
+refusal-requires-2 c κs = search needs
+
+returns-2 : tie.Need-returns-2
+returns-2 c =
+    let a = c .before .before .before .before .before .before .before .before .before .before .before .before .before .args in
+    let found = look (a .lid) (a .tick) (a .lsdu .now) (a .table) (a .store .now) (a .output .now) (c .before .before .before .before .before .before .before .before .before .sound .result) (c .before .before .before .before .before .before .fragment-in .result) (c .before .before .before .before .slot-at .result) (c .before .before .before .facts-of .result) (c .before .before .before .before .before .find .result) (c .before .before .before .before .before .before .before .before .lsdu-refusal .result) (c .before .before .fragment-refusal .result)
+    (c .before .before .before .before .before .before .before .before .before .sound .ensures) (c .before .before .before .before .before .before .before .before .lsdu-refusal .ensures) (c .before .before .before .before .before .before .fragment-in .ensures) (c .before .before .before .before .before .find .ensures) (c .before .before .before .before .slot-at .ensures) (c .before .before .before .facts-of .ensures) (c .before .before .fragment-refusal .ensures) in
+    (demanded, refusal-gives (a .lid) (a .tick) (a .lsdu .now) (a .table) (a .store .now) (a .output .now) (c .before .before .fragment-refusal .result) (c .refusal2 .result) (late-refuses (a .lid) (a .tick) (a .lsdu .now) (a .table) (a .store .now) (a .output .now) found (c .before .before .before .before .before .before .before .if1 .left)) (c .before .if2 .taken) (c .refusal2 .ensures))
+
+sub-start : tie.Need-sub-start
+sub-start c =
+    let a = c .before .before .before .before .before .before .before .before .before .before .before .before .before .args in
+    let found = look (a .lid) (a .tick) (a .lsdu .now) (a .table) (a .store .now) (a .output .now) (c .before .before .before .before .before .before .before .before .before .sound .result) (c .before .before .before .before .before .before .fragment-in .result) (c .before .before .before .before .slot-at .result) (c .before .before .before .facts-of .result) (c .before .before .before .before .before .find .result) (c .before .before .before .before .before .before .before .before .lsdu-refusal .result) (c .before .before .fragment-refusal .result)
+    (c .before .before .before .before .before .before .before .before .before .sound .ensures) (c .before .before .before .before .before .before .before .before .lsdu-refusal .ensures) (c .before .before .before .before .before .before .fragment-in .ensures) (c .before .before .before .before .before .find .ensures) (c .before .before .before .before .slot-at .ensures) (c .before .before .before .facts-of .ensures) (c .before .before .fragment-refusal .ensures) in
+    octets-in (a .lid) (a .tick) (a .lsdu .now) (a .table) (a .store .now) (a .output .now) found (c .before .before .before .before .before .before .before .if1 .left) (c .before .if2 .left)
+
+sub-payload : tie.Need-sub-payload
+sub-payload c = search needs
+
+part-payload-start : tie.Need-part-payload-start
+part-payload-start c = search needs
+
+part-payload-end : tie.Need-part-payload-end
+part-payload-end c = search needs
+
+accept-requires : tie.Need-accept-requires
+accept-requires c κs =
+    let a = c .before .before .before .before .before .before .before .before .before .before .before .before .before .before .before .before .before .args in
+    let found = look (a .lid) (a .tick) (a .lsdu .now) (a .table) (a .store .now) (a .output .now) (c .before .before .before .before .before .before .before .before .before .before .before .before .before .sound .result) (c .before .before .before .before .before .before .before .before .before .before .fragment-in .result) (c .before .before .before .before .before .before .before .before .slot-at .result) (c .before .before .before .before .before .before .before .facts-of .result) (c .before .before .before .before .before .before .before .before .before .find .result) (c .before .before .before .before .before .before .before .before .before .before .before .before .lsdu-refusal .result) (c .before .before .before .before .before .before .fragment-refusal .result)
+    (c .before .before .before .before .before .before .before .before .before .before .before .before .before .sound .ensures) (c .before .before .before .before .before .before .before .before .before .before .before .before .lsdu-refusal .ensures) (c .before .before .before .before .before .before .before .before .before .before .fragment-in .ensures) (c .before .before .before .before .before .before .before .before .before .find .ensures) (c .before .before .before .before .before .before .before .before .slot-at .ensures) (c .before .before .before .before .before .before .before .facts-of .ensures) (c .before .before .before .before .before .before .fragment-refusal .ensures) in
+    let n : length (a .table .slots) ≡ 8 = search (long, c .before .before .before .before .before .before .before .before .before .before .before .before .before .before .before .before .before .good) in
+    asks (a .lid) (a .tick) (a .lsdu .now) (a .table) (a .store .now) (a .output .now) found (c .before .before .before .before .before .before .before .before .before .before .before .if1 .left) (c .before .before .before .before .before .if2 .left) n
+
+same-length : tie.Need-same-length
+same-length c = search needs
+
+same-length-2 : tie.Need-same-length-2
+same-length-2 c = search needs
+
+returns-3 : tie.Need-returns-3
+returns-3 c =
+    let a = c .before .before .before .before .before .before .before .before .before .before .before .before .before .before .before .before .before .before .before .before .before .before .args in
+    let found = look (a .lid) (a .tick) (a .lsdu .now) (a .table) (a .store .now) (a .output .now) (c .before .before .before .before .before .before .before .before .before .before .before .before .before .before .before .before .before .before .sound .result) (c .before .before .before .before .before .before .before .before .before .before .before .before .before .before .before .fragment-in .result) (c .before .before .before .before .before .before .before .before .before .before .before .before .before .slot-at .result) (c .before .before .before .before .before .before .before .before .before .before .before .before .facts-of .result) (c .before .before .before .before .before .before .before .before .before .before .before .before .before .before .find .result) (c .before .before .before .before .before .before .before .before .before .before .before .before .before .before .before .before .before .lsdu-refusal .result) (c .before .before .before .before .before .before .before .before .before .before .before .fragment-refusal .result)
+    (c .before .before .before .before .before .before .before .before .before .before .before .before .before .before .before .before .before .before .sound .ensures) (c .before .before .before .before .before .before .before .before .before .before .before .before .before .before .before .before .before .lsdu-refusal .ensures) (c .before .before .before .before .before .before .before .before .before .before .before .before .before .before .before .fragment-in .ensures) (c .before .before .before .before .before .before .before .before .before .before .before .before .before .before .find .ensures) (c .before .before .before .before .before .before .before .before .before .before .before .before .before .slot-at .ensures) (c .before .before .before .before .before .before .before .before .before .before .before .before .facts-of .ensures) (c .before .before .before .before .before .before .before .before .before .before .before .fragment-refusal .ensures) in
+    (demanded, gives (a .lid) (a .tick) (a .lsdu .now) (a .table) (a .store .now) (a .output .now) found (c .before .before .before .before .before .before .before .before .before .before .before .before .before .before .before .before .if1 .left) (c .before .before .before .before .before .before .before .before .before .before .if2 .left) (c .before .before .before .before .accept .result) _ _ (c .before .before .before .before .accept .ensures))
+
+pub fragment-spec : {M : Type 1} → statement M
+fragment-spec =
+    tie.close
+    (tie.spec
+    sound-requires
+    lsdu-refusal-requires
+    refusal-requires
+    returns
+    fragment-in-requires
+    find-requires
+    slot-at-requires
+    facts-of-requires
+    fragment-refusal-requires
+    refusal-requires-2
+    returns-2
+    sub-start
+    sub-payload
+    part-payload-start
+    part-payload-end
+    accept-requires
+    same-length
+    same-length-2
+    returns-3)

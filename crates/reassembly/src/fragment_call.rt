@@ -1,0 +1,102 @@
+// The fragment call: checks 1 to 12 in their order, then the fragment is taken.
+ghost use mathlib.Core.Path.{_≡_};
+ghost use Rattle.reassembly.specs.Checks.{fragmentIn};
+ghost use Rattle.reassembly.specs.Engine.{factsFrom, FragmentGives};
+ghost use Rattle.reassembly.specs.Demand3.{Demanded};
+use crate::Arrival;
+use crate::Facts;
+use crate::FragmentAnswer;
+use crate::FragmentFields;
+use crate::FragmentResult;
+use crate::accept::accept;
+use crate::checks::fragment_refusal;
+use crate::checks::lsdu_refusal;
+use header::HeaderRead;
+use slots::Slot;
+use slots::Table;
+
+// The fragment of an LSDU, as its header gives it.
+fn fragment_in(lsdu: &[u8]) -> FragmentFields
+    ensures { λ r. ⌜ r ≡ fragmentIn (now (lsdu .entry)) ⌝ }
+{
+    match header::read(lsdu) {
+        HeaderRead::Fields { header, size } => FragmentFields {
+            valid: true,
+            last: header.last,
+            number: header.number,
+            counter: header.counter,
+            octets: lsdu.len() - size,
+        },
+        HeaderRead::Refused(_) => FragmentFields {
+            valid: false,
+            last: false,
+            number: 0,
+            counter: 0,
+            octets: 0,
+        },
+    }
+}
+
+// The facts of a pair, whose slot this is.
+fn facts_of(slot: Slot, table: Table) -> Facts
+    ensures { λ r. ⌜ r ≡ factsFrom slot table ⌝ }
+{
+    Facts {
+        is_open: slot.next != 0,
+        expected: slot.next,
+        held: slot.held,
+        full: slots::is_full(table),
+    }
+}
+
+fn refusal(number: u8, table: Table) -> FragmentResult
+    ensures { λ r. ⌜ (r .answer ≡ FragmentAnswer.Refused number) × (r .table ≡ table) ⌝ }
+{
+    FragmentResult {
+        answer: FragmentAnswer::Refused(number),
+        table,
+    }
+}
+
+// One fragment: held, or delivered to the front of `output` with the payloads before it, or refused 1 to 12. A refusal changes nothing.
+pub fn fragment(
+    lid: u32,
+    tick: u32,
+    lsdu: &[u8],
+    table: Table,
+    store: &mut [u8],
+    output: &mut [u8],
+) -> FragmentResult
+    ensures demand { λ _. ⌜ Demanded ⌝ }
+    ensures answer { λ r. ⌜ FragmentGives lid tick (now (lsdu .entry)) table (now (store .entry)) (now (output .entry)) r (now (store .exit)) (now (output .exit)) ⌝ }
+{
+    let early = lsdu_refusal(
+        store.len(),
+        output.len(),
+        slots::sound(table),
+        lid,
+        lsdu.len(),
+    );
+    if early != 0 {
+        return refusal(early, table);
+    }
+    let fragment = fragment_in(lsdu);
+    let number = fragment.number;
+    let index = slots::find(table, lid, number);
+    let facts = facts_of(slots::slot_at(table, index), table);
+    let late = fragment_refusal(fragment, facts);
+    if late != 0 {
+        return refusal(late, table);
+    }
+    let start = lsdu.len() - fragment.octets;
+    let payload = &lsdu[start..];
+    let arrival = Arrival {
+        lid,
+        number,
+        tick,
+        last: fragment.last,
+        begins: fragment.counter == 0,
+        index,
+    };
+    accept(arrival, table, payload, store, output)
+}

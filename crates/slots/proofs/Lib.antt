@@ -1,0 +1,5 @@
+pub mod Tests
+pub mod WordLaws
+pub mod SoundLaws
+pub mod LookupLaws
+pub mod SweepLaws
