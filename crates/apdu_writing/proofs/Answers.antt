@@ -1,0 +1,163 @@
+-- What `write` answers, one law for each way out.
+-- Assumes nothing.
+use Prim.Native.Nat.{ℕ, zero, suc, _+_, _-_, _*_, _/_, _≤_, _<_}
+use mathlib.Core.Path.{_≡_, refl, ap, sym, _∙_}
+use mathlib.Core.List.{List, [], _∷_, _++_, append-assoc, append-nil}
+use mathlib.Core.Bool.{Bool, true, false, _&&_, not}
+use mathlib.Core.Logic.{_⊎_, inl, inr}
+use native.Mathlib.Omega.{arith}
+use lib.ListN.{length, take, drop, length-append, length-drop}
+use lib.Dec.{ltb, eqb}
+use borrow.Author.Tests.{lt-ltb, le-ltb, ltb-true, ltb-false, not-true, not-false}
+use Rattle.refusals.specs.Check.{pick, check, firstOf}
+use Rattle.refusals.proofs.Tests.{by-cases, and-true, and-left, and-right}
+use Rattle.bits.specs.Bits.{Bits, Octets, bits, number, octets, putBits}
+use Rattle.bits.proofs.Laws.{below-append, below-drop, drop-bits, octets-bits, octets-small, bits-octets, bits-append, length-octets}
+use Rattle.apdu_format.specs.Limits.{longestMessage}
+use Rattle.apdu_format.specs.Component.{Component, choice}
+use Rattle.apdu_format.specs.Reading.{Value}
+use Rattle.apdu_format.specs.Writing.{Pen, pen, written, none, inRange, encode, size, encodedOctets}
+use Rattle.apdu_format.proofs.Tests.{never, both}
+use Rattle.apdu_format.proofs.Whole.{written-whole}
+use Rattle.apdu.specs.declared.lists.Row.{Row}
+use Rattle.apdu.specs.declared.lists.Entry.{Entry}
+use Rattle.apdu.specs.declared.records.Message.{Message}
+use Rattle.apdu.specs.Values.{valuesOf}
+use Rattle.apdu_writing.specs.declared.quill.Quill.{Quill}
+use Rattle.apdu_writing.specs.Sound.{sound}
+use Rattle.apdu_writing.specs.Quill.{quill, far, least, penAt, writes, Goes, Stops, Moves, Puts}
+use Rattle.apdu_writing.specs.Answer.{Answer, refused, refusedAt, wellFormed, writeRefusal, answered, writeAnswer, writeOutput}
+use Rattle.apdu_writing.specs.Answer.{octets as so-many}
+use Rattle.apdu_writing.proofs.Levels.{writes-none}
+use Rattle.apdu_writing.proofs.Chains.{near-is}
+
+-- ---- the octets of an output
+
+-- whole octets written to the front, and the others as they were
+front : (o l : List ℕ) (n : ℕ) → Octets o → Bits l → length l ≡ 8 * n → n ≤ length o → putBits o 0 l ≡ octets n l ++ drop n o
+unfolding putBits
+front o l n h small e k =
+    let x = octets n l in
+    let y = x ++ drop n o in
+    let d : 0 + length l ≡ 8 * n = omega arith in
+    let a : l ++ drop (0 + length l) (bits o) ≡ bits y ++ [] =
+    ap (λ (i : ℕ). l ++ drop i (bits o)) d ∙ ap (λ (t : List ℕ). l ++ t) (drop-bits n o) ∙ ap (λ (t : List ℕ). t ++ bits (drop n o)) (sym (bits-octets n l small e))
+    ∙ sym (bits-append x (drop n o)) ∙ sym (append-nil (bits y)) in
+    let m : length o ≡ length y = omega (arith, length-append x (drop n o), length-octets n l, length-drop n o) in
+    ap (octets (length o)) a ∙ ap (λ (i : ℕ). octets i (bits y ++ [])) m ∙ octets-bits y [] (below-append (octets-small n l small) (below-drop n h))
+
+-- ---- what was written
+
+abbrev startQuill : Quill
+startQuill = quill 0 32 true
+
+module _ {s : Bool} {vs : List Value} {r : Quill} {o o' : List ℕ} (p : Puts s (choice ∷ []) startQuill r o o' vs) where
+  told : (g : Goes s (choice ∷ []) [] startQuill r o o' vs) → written vs ≡ penAt [] (r .room) (g .w)
+  unfolding written writes
+  told g = ap (λ (l : List Value). writes (choice ∷ []) (penAt l 32 [])) (sym (append-nil vs)) ∙ g .so [] [] ∙ writes-none (penAt [] (r .room) (g .w))
+
+  module _ (ok : r .ok ≡ true) where
+    pub in-range : (inRange vs && s) ≡ true
+    unfolding inRange none
+    in-range =
+        let g = p .good ok in
+        let e : (written vs .ok && none (written vs .left)) ≡ true = rw (told g) in
+        and-true e (g .holds)
+
+    encoded : encode vs ≡ p .good ok .w
+    unfolding encode
+    encoded = ap (λ (q : Pen). q .out) (told (p .good ok))
+
+    long : length (encode vs) ≡ 8 * size vs
+    long = written-whole vs (ap (λ (q : Pen). q .ok) (told (p .good ok)))
+
+    pub place : least (r .at) ≡ least (8 * size vs)
+    place = p .good ok .to ∙ ap (λ (n : ℕ). least n) (zero-plus (length (p .good ok .w)) ∙ ap length (sym encoded) ∙ long)
+      where
+        zero-plus : (n : ℕ) → 0 + n ≡ n
+        zero-plus n = omega arith
+
+    pub inked : Octets o → size vs ≤ 512 → size vs ≤ length o → o' ≡ encodedOctets vs ++ drop (size vs) o
+    unfolding encodedOctets
+    inked h a b =
+        let g = p .good ok in
+        let n : length (g .w) ≡ 8 * size vs = ap length (sym encoded) ∙ long in
+        g .ink h (omega arith) (omega arith) ∙ ap (putBits o 0) (sym encoded) ∙ front o (encode vs) (size vs) h (rw encoded (g .small)) long b
+
+  pub out-of-range : r .ok ≡ false → (inRange vs && s) ≡ false
+  unfolding inRange
+  out-of-range h = told-bad (p .bad h refl)
+    where
+      told-bad : (s ≡ false) ⊎ Stops (choice ∷ []) 32 vs → ((written vs .ok && none (written vs .left)) && s) ≡ false
+      told-bad (inl x) = and-right (written vs .ok && none (written vs .left)) x
+      told-bad (inr x) = and-left s (and-left (none (written vs .left)) (stopped x))
+        where
+          stopped : Stops (choice ∷ []) 32 vs → written vs .ok ≡ false
+          stopped x = unfold written writes in (ap (λ (l : List Value). writes (choice ∷ []) (penAt l 32 []) .ok) (sym (append-nil vs)) ∙ x .so [] [])
+
+-- ---- the answers
+
+module _ (s : List ℕ) (m : Message) (es : List Entry) (rs : List Row) (out : List ℕ) where
+  abbrev vs : List Value
+  vs = valuesOf s m es rs
+
+  pub refusal-23 : wellFormed s m es rs ≡ false → writeRefusal s m es rs (length out) ≡ 23
+  unfolding writeRefusal firstOf
+  refusal-23 h = rw h
+
+  pub refusal-21 : wellFormed s m es rs ≡ true → 512 < size vs → writeRefusal s m es rs (length out) ≡ 21
+  unfolding writeRefusal firstOf
+  refusal-21 h k = rw (h, lt-ltb 512 (size vs) k)
+
+  refusal-22 : wellFormed s m es rs ≡ true → size vs ≤ 512 → length out < size vs → writeRefusal s m es rs (length out) ≡ 22
+  unfolding writeRefusal firstOf
+  refusal-22 h k l = rw (h, le-ltb 512 (size vs) k, lt-ltb (length out) (size vs) l)
+
+  refusal-0 : wellFormed s m es rs ≡ true → size vs ≤ 512 → size vs ≤ length out → writeRefusal s m es rs (length out) ≡ 0
+  unfolding writeRefusal firstOf
+  refusal-0 h k l = rw (h, le-ltb 512 (size vs) k, le-ltb (length out) (size vs) l)
+
+  abbrev Told : Answer → List ℕ → Type 0
+  Told a o = (a ≡ writeAnswer s m es rs (length out)) × (o ≡ writeOutput s m es rs out)
+
+  module _ {r : Quill} {o o' : List ℕ} (p : Puts (sound (length s) m es rs) (choice ∷ []) startQuill r o o' (valuesOf s m es rs)) where
+    formed : r .ok ≡ true → wellFormed s m es rs ≡ true
+    unfolding wellFormed
+    formed h = in-range p h
+
+    pub writes-23 : not (r .ok) ≡ true → Told (refused 23) out
+    unfolding wellFormed writeAnswer writeOutput answered
+    writes-23 h = let e = refusal-23 (out-of-range p (not-true (r .ok) h)) in (rw e, rw e)
+
+    module _ (ok : not (r .ok) ≡ false) where
+      is-ok : r .ok ≡ true
+      is-ok = not-false (r .ok) ok
+
+      far-is : 512 < r .at / 8 → 512 < size vs
+      far-is h = by-cases (ltb (8 * size vs) far) (λ t. near (ltb-true (8 * size vs) far t)) (λ t. omega (arith, ltb-false (8 * size vs) far t))
+        where
+          near : 8 * size vs < far → 512 < size vs
+          near t = omega (arith, near-is (r .at) (8 * size vs) (place p is-ok) t)
+
+      at-is : r .at / 8 ≤ 512 → r .at / 8 ≡ size vs
+      at-is h =
+          let a : r .at < far = omega arith in
+          let b : 8 * size vs ≡ r .at = near-is (8 * size vs) (r .at) (sym (place p is-ok)) a in
+          omega arith
+
+      pub writes-21 : 512 < r .at / 8 → Told (refusedAt 21 512) out
+      unfolding writeAnswer writeOutput answered
+      writes-21 h = let e = refusal-21 (formed is-ok) (far-is h) in (rw e, rw e)
+
+      pub writes-22 : r .at / 8 ≤ 512 → length out < r .at / 8 → Told (refused 22) out
+      unfolding writeAnswer writeOutput answered
+      writes-22 h k = let a = at-is h in let e = refusal-22 (formed is-ok) (omega arith) (omega arith) in (rw e, rw e)
+
+      pub writes-octets : r .at / 8 ≤ 512 → r .at / 8 ≤ length out → Octets out → {q : Quill} {out' : List ℕ}
+          → Puts (sound (length s) m es rs) (choice ∷ []) startQuill q out out' (valuesOf s m es rs) → Told (so-many (r .at / 8)) out'
+      unfolding writeAnswer writeOutput answered
+      writes-octets h k octs {q} {out'} d =
+          let a = at-is h in
+          let e = refusal-0 (formed is-ok) (omega arith) (omega arith) in
+          let again : q .ok ≡ true = by-cases (q .ok) (λ t. t) (λ t. never (sym (out-of-range d t) ∙ in-range p is-ok)) in
+          (rw (e, a), rw e (inked d again octs (omega arith) (omega arith)))

@@ -1,0 +1,140 @@
+-- The components, one by one: which values are in range, and what they bring.
+-- Assumes nothing.
+use Prim.Native.Nat.{ℕ, zero, suc, _+_, _-_, _*_, _/_, _%_, _^_, _≤_, _<_}
+use mathlib.Core.Path.{_≡_, refl, ap, sym, _∙_}
+use mathlib.Core.List.{List, [], _∷_, _++_, append-assoc, append-nil}
+use mathlib.Core.Bool.{Bool, true, false, _&&_}
+use mathlib.Core.Logic.{_⊎_, inl, inr}
+use native.Mathlib.Omega.{arith}
+use lib.ListN.{length, take, drop, length-append, length-drop}
+use lib.Seq.{drop-drop, take-add, length-take-le}
+use lib.Dec.{ltb, leb, eqb}
+use borrow.Author.Tests.{ltb-true, ltb-false, le-leb, lt-ltb, le-ltb}
+use Rattle.refusals.specs.Check.{pick, check, firstOf}
+use Rattle.refusals.proofs.Tests.{by-test, by-cases, and-true, and-left, and-right}
+use Rattle.bits.specs.Bits.{Bits, Octets, bits, putBits, digits, writeField}
+use Rattle.bits.specs.Bits.{field}
+use Rattle.bits.specs.Strings.{isInside, stringAt, writeFits, writeString}
+use Rattle.bits.proofs.Laws.{bits-small, below-drop, below-take, length-bits, digits-number}
+use Rattle.bits.proofs.Strings.{inside-le}
+use Rattle.apdu_format.proofs.Values.{fits-value}
+use Rattle.apdu_format.specs.Component.{Component, integer, stringForm, stringLength, stringOctets}
+use Rattle.apdu_format.specs.Rules.{Shape, widths, raw, shape, checksOf, brings, announced, when}
+use Rattle.apdu_format.specs.Reading.{Value, fields, string, numbersOf, sum, need, valueAt}
+use Rattle.apdu_format.specs.Writing.{bitsOf, fits, isValue, fieldBits, fieldsFit}
+use Rattle.apdu_format.proofs.Tests.{never, both}
+use Rattle.apdu.specs.Values.{num, num-if, str, if}
+use Rattle.apdu_writing.specs.declared.quill.Quill.{Quill}
+use Rattle.apdu_writing.specs.Quill.{quill, behind, Put, spent, Goes, Stops, Moves, Puts}
+use Rattle.apdu_writing.proofs.Chains.{nothing, idle, then}
+use Rattle.apdu_writing.proofs.Leaves.{packed, Writes, leaf, leaf-spent, in-number}
+
+pub and-unit : (b : Bool) → (b && true) ≡ b
+and-unit true = refl
+and-unit false = refl
+
+-- ---- numbers
+
+number-range : (room n : ℕ) → ltb n 128 ≡ isValue integer room (num n)
+unfolding isValue fits shape fieldsFit checksOf firstOf numbersOf
+number-range room n = sym (and-unit (ltb n 128 && true) ∙ and-unit (ltb n 128))
+
+pub number-by : (n : ℕ) {c r : Quill} {o o' : List ℕ} → Put 8 (ltb n 128) c r (writeField o (c .at) 8 n) o o' → Puts true (integer ∷ []) c r o o' (num n ∷ [])
+unfolding brings announced sum
+number-by n {c} {r} {o} p =
+    leaf integer (num n) p (in-number integer (1 ∷ 7 ∷ []) (0 ∷ n ∷ []) n (ltb n 128) (c .room) o (c .at) (unfold shape in refl) (omega arith) (number-range (c .room) n) (λ g. unfold packed in omega arith)) refl
+
+-- ---- optional components
+
+module _ {is : List Component} {c r : Quill} {o o' : List ℕ} {vs : List Value} (p : Bool) where
+  pub there : p ≡ true → Puts true is c r o o' vs → Puts true (when p is) c r o o' (if p vs)
+  there e m = rw e m
+
+  pub there-sound : {s : Bool} → p ≡ true → Puts s is c r o o' vs → Puts (pick p s true) (when p is) c r o o' (if p vs)
+  there-sound e m = rw e m
+
+module _ (is : List Component) (c : Quill) (o : List ℕ) (vs : List Value) (p : Bool) (no : p ≡ false) where
+  pub absent : Puts true (when p is) c c o o (if p vs)
+  absent = rw no (nothing [] c o)
+
+  pub absent-sound : (s : Bool) → Puts (pick p s true) (when p is) c c o o (if p vs)
+  absent-sound s = rw no (nothing [] c o)
+
+-- ---- octet strings
+
+-- the bits of a string that is inside
+string-bits : (s : List ℕ) (start n : ℕ) → start + 8 * n ≤ 8 * length s → bits (stringAt s start n) ≡ take (8 * n) (drop start (bits s))
+unfolding stringAt bits field
+string-bits s start zero h = refl
+string-bits s start (suc n) h =
+    let l = drop start (bits s) in
+    let m : 8 * suc n ≤ length l = omega (arith, length-drop start (bits s), length-bits s) in
+    let e : 8 * suc n ≡ 8 + 8 * n = omega arith in
+    ap (λ (k : List ℕ). k ++ bits (stringAt s (start + 8) n)) (digits-number 8 l (below-drop start (bits-small s)) (omega arith))
+    ∙ ap (λ (k : List ℕ). take 8 l ++ k) (string-bits s (start + 8) n (omega arith) ∙ ap (take (8 * n)) (sym (drop-drop 8 start (bits s))))
+    ∙ sym (take-add 8 (8 * n) l) ∙ ap (λ (k : ℕ). take k l) (sym e)
+
+module _ (s : List ℕ) (start n : ℕ) where
+  abbrev octetsValue : Value
+  octetsValue = string start (take (8 * n) (drop start (bits s)))
+
+  octets-range : (room : ℕ) → isInside (length s) start n ≡ true → isValue (stringOctets n) room octetsValue ≡ true
+  unfolding isValue shape checksOf firstOf valueAt need
+  octets-range room h =
+      let k = inside-le (length s) start n h in
+      let m : 8 * n ≤ length (drop start (bits s)) = omega (arith, length-drop start (bits s), length-bits s) in
+      and-true (fits-value (raw n) start (drop start (bits s)) (below-drop start (bits-small s)) m) refl
+
+  inside-is : (m at : ℕ) → at + 8 * n ≤ 8 * m → isInside m at n ≡ true
+  unfolding isInside
+  inside-is m at f = le-leb _ _ f
+
+  octets-written : (o : List ℕ) (at : ℕ) → isInside (length s) start n ≡ true → at + 8 * n ≤ 8 * length o
+      → writeString s start n o at ≡ putBits o at (take (8 * n) (drop start (bits s)))
+  unfolding writeString writeFits
+  octets-written o at h f = rw (h, inside-is (length o) at f) (ap (putBits o at) (string-bits s start n (inside-le (length s) start n h)))
+
+  module _ {c r : Quill} {o o' : List ℕ} (p : Put (8 * n) (isInside (length s) start n) c r (writeString s start n o (c .at)) o o') where
+    octets-inside : isInside (length s) start n ≡ true → Puts true (stringOctets n ∷ []) c r o o' (octetsValue ∷ [])
+    unfolding bitsOf shape announced brings
+    octets-inside h =
+        let k = inside-le (length s) start n h in
+        leaf (stringOctets n) octetsValue p
+        (record {
+          range = h ∙ sym (octets-range (c .room) h);
+          small = λ g. below-take (8 * n) (below-drop start (bits-small s));
+          long = λ g. length-take-le (8 * n) (drop start (bits s)) (omega (arith, length-drop start (bits s), length-bits s));
+          put = λ g f. octets-written o (c .at) h f;
+        })
+        refl
+
+    octets-outside : isInside (length s) start n ≡ false → Puts false (stringOctets n ∷ []) c r o o' (octetsValue ∷ [])
+    unfolding behind
+    octets-outside h = record { good = λ g. never (sym (ap (λ (z : Quill). z .ok) (p .is) ∙ and-right (c .ok) h) ∙ g); bad = λ g k. inl refl }
+
+    pub octets-by : Puts (isInside (length s) start n) (stringOctets n ∷ []) c r o o' (octetsValue ∷ [])
+    octets-by = by-cases (isInside (length s) start n) (λ h. rw h (octets-inside h)) (λ h. rw h (octets-outside h))
+
+-- an octet string: its form, its length and its octets
+module _ (s : List ℕ) (start n : ℕ) {c d e : Quill} {o o₁ o₂ : List ℕ} (form : Put 1 true c d (writeField o (c .at) 1 0) o o₁)
+    (long : Put 7 (ltb n 128) d e (writeField o₁ (d .at) 7 n) o₁ o₂) where
+  length-by : Moves true (stringForm ∷ []) (stringOctets n ∷ []) c e o o₂ (fields (0 ∷ []) ∷ fields (n ∷ []) ∷ [])
+  unfolding brings announced sum numbersOf
+  length-by =
+      then
+      (leaf stringForm (fields (0 ∷ [])) form
+      (in-number stringForm (1 ∷ []) (0 ∷ []) 0 true (c .room) o (c .at) (unfold shape in refl) (omega arith) (unfold isValue fits shape fieldsFit checksOf firstOf numbersOf in refl) (λ g. unfold packed in refl))
+      refl)
+      (leaf stringLength (fields (n ∷ [])) long
+      (in-number stringLength (7 ∷ []) (n ∷ []) n (ltb n 128) (d .room) o₁ (d .at) (unfold shape in refl) (omega arith)
+      (unfold isValue fits shape fieldsFit checksOf firstOf numbersOf in sym (and-unit (ltb n 128 && true) ∙ and-unit (ltb n 128))) (λ g. unfold packed in omega arith))
+      refl)
+
+  pub string-by : {r : Quill} {o₃ : List ℕ} → Put (8 * n) (isInside (length s) start n) e r (writeString s start n o₂ (e .at)) o₂ o₃
+      → Puts (isInside (length s) start n) (stringForm ∷ []) c r o o₃ (str s start n)
+  string-by p = then length-by (octets-by s start n p)
+
+  pub string-long : 127 < n → Puts (isInside (length s) start n) (stringForm ∷ []) c e o o₂ (str s start n)
+  string-long h =
+      let no : e .ok ≡ false = ap (λ (z : Quill). z .ok) (long .is) ∙ unfold behind in and-right (d .ok) (le-ltb n 128 (omega arith)) in
+      then length-by (idle no no)

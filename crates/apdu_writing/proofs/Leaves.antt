@@ -1,0 +1,132 @@
+-- One component that the code writes as one field, or as octets.
+-- Assumes nothing.
+use Prim.Native.Nat.{ℕ, zero, suc, _+_, _-_, _*_, _/_, _%_, _^_, _≤_, _<_}
+use mathlib.Core.Path.{_≡_, refl, ap, sym, _∙_}
+use mathlib.Core.List.{List, [], _∷_, _++_, append-assoc, append-nil}
+use mathlib.Core.Bool.{Bool, true, false, _&&_}
+use mathlib.Core.Logic.{_⊎_, inl, inr}
+use native.Mathlib.Nat.{mul-le-mul-right, suc-mul}
+use native.Mathlib.Omega.{arith}
+use lib.ListN.{length, length-append}
+use lib.Dec.{ltb, leb, eqb}
+use lib.Pow.{high, pow-add}
+use borrow.Author.Tests.{ltb-true, ltb-false, le-leb}
+use Rattle.refusals.specs.Check.{pick, firstOf}
+use Rattle.refusals.proofs.Tests.{by-test, by-cases, and-true, and-left, and-right}
+use Rattle.bits.specs.Bits.{Bits, Octets, putBits, digits, fieldFits, writeField}
+use Rattle.bits.proofs.Laws.{digits-small, length-digits, digits-add, digits-above}
+use Rattle.apdu_format.specs.Component.{Component}
+use Rattle.apdu_format.specs.Rules.{widths, shape, checksOf, brings, announced}
+use Rattle.apdu_format.specs.Reading.{Value, fields, numbersOf, sum}
+use Rattle.apdu_format.specs.Writing.{Pen, bitsOf, fits, isValue, fieldBits, fieldsFit}
+use Rattle.apdu_format.proofs.Tests.{never, both}
+use Rattle.apdu_writing.specs.declared.quill.Quill.{Quill}
+use Rattle.apdu_writing.specs.Quill.{quill, far, least, behind, Put, spent, penAt, writes, Goes, Stops, Moves, Puts}
+use Rattle.apdu_writing.proofs.Levels.{writes-fine, writes-wrong}
+use Rattle.apdu_writing.proofs.Chains.{least-add}
+
+-- ---- fields in one number
+
+-- fields of these widths as one number
+unfoldable pub packed : List ℕ → List ℕ → ℕ
+packed [] fs = 0
+packed (w ∷ ws) [] = 0
+packed (w ∷ ws) (f ∷ fs) = f * 2 ^ sum ws + packed ws fs
+
+packed-lt : (ws fs : List ℕ) → fieldsFit ws fs ≡ true → packed ws fs < 2 ^ sum ws
+unfolding packed fieldsFit sum
+packed-lt [] fs h = omega arith
+packed-lt (w ∷ ws) [] h = never h
+packed-lt (w ∷ ws) (f ∷ fs) h =
+    let q = both (ltb f (2 ^ w)) (fieldsFit ws fs) h in
+    block f w (packed ws fs) (sum ws) (ltb-true f (2 ^ w) (q .0)) (packed-lt ws fs (q .1))
+  where
+    block : (f w p s : ℕ) → f < 2 ^ w → p < 2 ^ s → f * 2 ^ s + p < 2 ^ (w + s)
+    block f w p s h k =
+        let m : suc f * 2 ^ s ≤ 2 ^ w * 2 ^ s = mul-le-mul-right (2 ^ s) h in
+        rw (pow-add 2 w s) (omega (arith, suc-mul f (2 ^ s)))
+
+pub pack : (ws fs : List ℕ) → fieldsFit ws fs ≡ true → digits (sum ws) (packed ws fs) ≡ fieldBits ws fs
+unfolding packed fieldsFit sum fieldBits digits
+pack [] [] h = refl
+pack [] (f ∷ fs) h = never h
+pack (w ∷ ws) [] h = never h
+pack (w ∷ ws) (f ∷ fs) h =
+    let q = both (ltb f (2 ^ w)) (fieldsFit ws fs) h in
+    digits-add w (sum ws) (f * 2 ^ sum ws + packed ws fs)
+    ∙ ap (λ (n : ℕ). digits w n ++ digits (sum ws) (f * 2 ^ sum ws + packed ws fs)) (high f (sum ws) (packed-lt ws fs (q .1)))
+    ∙ ap (λ (l : List ℕ). digits w f ++ l) (digits-above (sum ws) f (packed ws fs) ∙ pack ws fs (q .1))
+
+-- ---- one component
+
+-- the bits written are those of a value, if it is in range
+pub record Writes (i : Component) (v : Value) (w : ℕ) (fine : Bool) (room : ℕ) (x o : List ℕ) (at : ℕ) : Type 0 where
+  pub range : fine ≡ isValue i room v
+  pub small : fine ≡ true → Bits (bitsOf (shape i) v)
+  pub long : fine ≡ true → length (bitsOf (shape i) v) ≡ w
+  pub put : fine ≡ true → at + w ≤ 8 * length o → x ≡ putBits o at (bitsOf (shape i) v)
+
+-- a quill that differs from r in its room only
+pub leaf-spent : (i : Component) (v : Value) {w : ℕ} {fine : Bool} {c r e : Quill} {x o o' : List ℕ}
+    → Put w fine c r x o o' → Writes i v w fine (c .room) x o (c .at) → e ≡ quill (r .at) (r .room - announced i (numbersOf v)) (r .ok)
+    → Moves true (i ∷ []) (brings i (numbersOf v)) c e o o' (v ∷ [])
+unfolding behind
+leaf-spent i v {w} {fine} {c} {r} {e} {x} {o} {o'} p q s =
+    let ok : e .ok ≡ (c .ok && fine) = ap (λ (z : Quill). z .ok) s ∙ ap (λ (z : Quill). z .ok) (p .is) in
+    let m = bitsOf (shape i) v in
+    record {
+      good = λ h.
+          let a = both (c .ok) fine (sym ok ∙ h) in
+          let room : e .room ≡ c .room - announced i (numbersOf v) = ap (λ (z : Quill). z .room) s ∙ ap (λ (z : Quill). z .room - announced i (numbersOf v)) (p .is) in
+          let at : e .at ≡ least (c .at + w) = ap (λ (z : Quill). z .at) s ∙ ap (λ (z : Quill). z .at) (p .is) ∙ rw (and-true (a .0) (a .1)) in
+          let n = q .long (a .1) in
+          record {
+            holds = refl;
+            came = a .0;
+            w = m;
+            small = q .small (a .1);
+            so = λ rest b. writes-fine i (c .room) v rest b (sym (q .range) ∙ a .1) ∙ ap (λ (k : ℕ). writes (brings i (numbersOf v)) (penAt rest k (b ++ m))) (sym room);
+            to = ap least at ∙ twice (c .at + w) ∙ ap (λ (k : ℕ). least (c .at + k)) (sym n);
+            ink = λ octs near fits. p .out ∙ rw (and-true (a .0) (a .1)) (q .put (a .1) (omega arith));
+          };
+      bad = λ h k.
+          let f : fine ≡ false = wrong (c .ok) fine k (sym ok ∙ h) in
+          inr (record { so = λ rest b. writes-wrong i (c .room) v rest b (sym (q .range) ∙ f) });
+    }
+  where
+    twice : (n : ℕ) → least (least n) ≡ least n
+    twice n = ap least (plus (least n)) ∙ least-add n 0 ∙ ap least (sym (plus n))
+      where
+        plus : (n : ℕ) → n ≡ n + 0
+        plus n = omega arith
+
+    wrong : (a b : Bool) → a ≡ true → (a && b) ≡ false → b ≡ false
+    wrong true b h k = k
+    wrong false b h k = never h
+
+pub leaf : (i : Component) (v : Value) {w : ℕ} {fine : Bool} {c r : Quill} {x o o' : List ℕ}
+    → Put w fine c r x o o' → Writes i v w fine (c .room) x o (c .at) → announced i (numbersOf v) ≡ 0
+    → Moves true (i ∷ []) (brings i (numbersOf v)) c r o o' (v ∷ [])
+leaf i v {r = r} p q n = leaf-spent i v p q (ap (λ (k : ℕ). quill (r .at) k (r .ok)) (rw n (omega arith)))
+
+-- a component of one field in the code
+pub in-field : (i : Component) (v : Value) (w n : ℕ) (fine : Bool) (room : ℕ) (o : List ℕ) (at : ℕ) → w ≤ 48 → fine ≡ isValue i room v
+    → (fine ≡ true → digits w n ≡ bitsOf (shape i) v) → Writes i v w fine room (writeField o at w n) o at
+unfolding writeField fieldFits
+in-field i v w n fine room o at h e f =
+    record {
+      range = e;
+      small = λ g. rw (← f g) (digits-small w n);
+      long = λ g. ap length (sym (f g)) ∙ length-digits w n;
+      put = λ g k. rw (le-leb w 48 h, le-leb (at + w) (8 * length o) k) (ap (putBits o at) (f g));
+    }
+
+-- a component whose fields stand in one number
+pub in-number : (i : Component) (ws fs : List ℕ) (n : ℕ) (fine : Bool) (room : ℕ) (o : List ℕ) (at : ℕ) → shape i ≡ widths ws → sum ws ≤ 48
+    → fine ≡ isValue i room (fields fs) → (fine ≡ true → n ≡ packed ws fs) → Writes i (fields fs) (sum ws) fine room (writeField o at (sum ws) n) o at
+unfolding isValue fits bitsOf numbersOf
+in-number i ws fs n fine room o at s h e f =
+    in-field i (fields fs) (sum ws) n fine room o at h e
+    (λ g.
+    let k : fieldsFit ws fs ≡ true = rw s at (both (fits (shape i) (fields fs)) (eqb (firstOf (checksOf i room fs)) 0) (sym e ∙ g) .0) in
+    rw s (ap (digits (sum ws)) (f g) ∙ pack ws fs k))

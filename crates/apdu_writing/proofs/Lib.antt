@@ -1,0 +1,17 @@
+pub mod Quills
+pub mod Levels
+pub mod Chains
+pub mod Leaves
+pub mod Components
+pub mod Counts
+pub mod Heads
+pub mod Dues
+pub mod RowLists
+pub mod Boxes
+pub mod Leads
+pub mod Messages
+pub mod EntryLists
+pub mod Links
+pub mod Answers
+pub mod AnyKind
+pub mod RoundTrip

@@ -1,0 +1,16 @@
+-- `announces` goes by the kind.
+-- Assumes nothing.
+use borrow.Author.Tests.{eq-eqb, ne-eqb, le-leb, lt-leb, lt-ltb, le-ltb}
+use native.Mathlib.Omega.{arith}
+use mathlib.Core.Path.{refl}
+use Rattle.apdu_writing.proofs.container.announces.Statement.{statement}
+use Rattle.apdu_writing.proofs.container.announces.Tie as tie
+
+returns : tie.Need-returns
+returns c = simp (eq-eqb _ _ (c .if1 .taken))
+
+returns-2 : tie.Need-returns-2
+returns-2 c = simp (ne-eqb _ _ (c .if1 .left))
+
+pub announces-spec : {M : Type 1} → statement M
+announces-spec = tie.close (tie.spec returns returns-2)

@@ -1,0 +1,31 @@
+-- `level` goes by the five numbers, the innermost list first.
+-- Assumes nothing.
+use borrow.Author.Tests.{eq-eqb, ne-eqb, le-leb, lt-leb, lt-ltb, le-ltb}
+use native.Mathlib.Omega.{arith}
+use mathlib.Core.Path.{refl}
+use Rattle.apdu_writing.specs.Rows.{levelOf}
+use Rattle.apdu_writing.proofs.container.level.Statement.{statement}
+use Rattle.apdu_writing.proofs.container.level.Tie as tie
+
+returns : tie.Need-returns
+unfolding levelOf
+returns c = (simp (ne-eqb _ _ (c .if1 .taken)), omega arith)
+
+returns-2 : tie.Need-returns-2
+unfolding levelOf
+returns-2 c = (simp (ne-eqb _ _ (c .if2 .taken), eq-eqb _ _ (c .before .before .if1 .left)), omega arith)
+
+returns-3 : tie.Need-returns-3
+unfolding levelOf
+returns-3 c = (simp (ne-eqb _ _ (c .if3 .taken), eq-eqb _ _ (c .before .before .if2 .left), eq-eqb _ _ (c .before .before .before .before .if1 .left)), omega arith)
+
+returns-4 : tie.Need-returns-4
+unfolding levelOf
+returns-4 c = (simp (ne-eqb _ _ (c .if4 .taken), eq-eqb _ _ (c .before .before .if3 .left), eq-eqb _ _ (c .before .before .before .before .if2 .left), eq-eqb _ _ (c .before .before .before .before .before .before .if1 .left)), omega arith)
+
+returns-5 : tie.Need-returns-5
+unfolding levelOf
+returns-5 c = (simp (eq-eqb _ _ (c .if4 .left), eq-eqb _ _ (c .before .before .if3 .left), eq-eqb _ _ (c .before .before .before .before .if2 .left), eq-eqb _ _ (c .before .before .before .before .before .before .if1 .left)), omega arith)
+
+pub level-spec : {M : Type 1} → statement M
+level-spec = tie.close (tie.spec returns returns-2 returns-3 returns-4 returns-5)

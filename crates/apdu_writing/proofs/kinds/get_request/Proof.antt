@@ -1,0 +1,79 @@
+-- The leading part and then the components, one after the other.
+-- Assumes nothing.
+use Rattle.apdu_writing.proofs.Messages.{get-request-by}
+use borrow.Author.Needs.{needs}
+use Rattle.apdu_writing.proofs.kinds.get_request.Statement.{statement}
+use Rattle.apdu_writing.proofs.kinds.get_request.Tie as tie
+
+bit-requires : tie.Need-bit-requires
+bit-requires c κs = search needs
+
+mul-v : tie.Need-mul-v
+mul-v c = search needs
+
+bit-requires-2 : tie.Need-bit-requires-2
+bit-requires-2 c κs = search needs
+
+mul-v-2 : tie.Need-mul-v-2
+mul-v-2 c = search needs
+
+add-v : tie.Need-add-v
+add-v c = search needs
+
+bit-requires-3 : tie.Need-bit-requires-3
+bit-requires-3 c κs = search needs
+
+mul-v-3 : tie.Need-mul-v-3
+mul-v-3 c = search needs
+
+add-v-2 : tie.Need-add-v-2
+add-v-2 c = search needs
+
+small-requires : tie.Need-small-requires
+small-requires c κs = search needs
+
+add-v-3 : tie.Need-add-v-3
+add-v-3 c = search needs
+
+put-requires : tie.Need-put-requires
+put-requires c κs = search needs
+
+number-requires : tie.Need-number-requires
+number-requires c κs = search needs
+
+string-if-requires : tie.Need-string-if-requires
+string-if-requires c κs = search needs
+
+number-if-requires : tie.Need-number-if-requires
+number-if-requires c κs = search needs
+
+ids-if-requires : tie.Need-ids-if-requires
+ids-if-requires c κs = search needs
+
+same-length : tie.Need-same-length
+same-length c = search needs
+
+returns : tie.Need-returns
+returns c = get-request-by _ _ (c .before .before .before .before .before .before .before .before .before .before .before .before .before .before .before .before .before .before .before .before .before .before .before .before .bit .ensures .0) (c .before .before .before .before .before .before .before .before .before .before .before .before .before .before .before .before .before .before .before .before .before .before .before .bit2 .ensures .0) (c .before .before .before .before .before .before .before .before .before .before .before .before .before .before .before .before .before .before .before .before .before .before .bit3 .ensures .0) (c .before .before .before .before .before .before .before .before .before .before .before .before .before .before .before .before .before .before .before .before .before .small .ensures) (c .before .before .before .before .before .before .before .before .before .before .before .before .before .before .before .before .before .before .put .ensures) (c .before .before .before .before .before .before .before .before .before .before .before .before .before .before .number .ensures) (c .before .before .before .before .before .before .before .before .before .before .string-if .ensures) (c .before .before .before .before .before .before .number-if .ensures) (c .before .before .ids-if .ensures)
+
+pub get-request-spec : {M : Type 1} → statement M
+get-request-spec =
+    tie.close
+    (tie.spec
+    bit-requires
+    mul-v
+    bit-requires-2
+    mul-v-2
+    add-v
+    bit-requires-3
+    mul-v-3
+    add-v-2
+    small-requires
+    add-v-3
+    put-requires
+    number-requires
+    string-if-requires
+    number-if-requires
+    ids-if-requires
+    same-length
+    returns)

@@ -1,0 +1,21 @@
+-- It is written or passed over.
+-- Assumes nothing.
+use Rattle.apdu_writing.proofs.Components.{there-sound, absent-sound}
+use borrow.Author.Needs.{needs}
+use Rattle.apdu_writing.proofs.lists.attributes_if.Statement.{statement}
+use Rattle.apdu_writing.proofs.lists.attributes_if.Tie as tie
+
+attributes-requires : tie.Need-attributes-requires
+attributes-requires c κs = search needs
+
+same-length : tie.Need-same-length
+same-length c = search needs
+
+returns : tie.Need-returns
+returns c = there-sound _ (c .before .before .before .before .if1 .taken) (c .before .before .attributes .ensures)
+
+returns-2 : tie.Need-returns-2
+returns-2 c = absent-sound _ _ _ _ _ (c .if1 .left) _
+
+pub attributes-if-spec : {M : Type 1} → statement M
+attributes-if-spec = tie.close (tie.spec attributes-requires same-length returns returns-2)

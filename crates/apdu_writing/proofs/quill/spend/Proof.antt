@@ -1,0 +1,18 @@
+-- `spend` takes off what is there.
+-- Assumes nothing.
+use mathlib.Core.Path.{refl}
+use native.Mathlib.Omega.{arith}
+use Rattle.apdu_writing.specs.Quill.{spent}
+use Rattle.apdu_writing.proofs.Quills.{spent-all}
+use Rattle.apdu_writing.proofs.quill.spend.Statement.{statement}
+use Rattle.apdu_writing.proofs.quill.spend.Tie as tie
+
+returns : tie.Need-returns
+returns c = spent-all _ _ (c .if1 .taken)
+
+returns-2 : tie.Need-returns-2
+unfolding spent
+returns-2 c = refl
+
+pub spend-spec : {M : Type 1} → statement M
+spend-spec = tie.close (tie.spec returns returns-2)

@@ -1,0 +1,5 @@
+pub mod Sound
+pub mod Quill
+pub mod Rows
+pub mod Applications
+pub mod Answer

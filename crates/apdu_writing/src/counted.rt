@@ -1,0 +1,88 @@
+// Counts, container kinds and lists of ids.
+ghost use mathlib.Core.Path.{_≡_};
+ghost use mathlib.Core.Bool.{true};
+ghost use mathlib.Core.List.{[], _∷_, _++_};
+ghost use Prim.Native.Nat.{_*_, _+_, _/_, _<_, _≤_};
+ghost use lib.ListN.{length};
+ghost use Rattle.bits.specs.Strings.{isInside};
+ghost use Rattle.apdu_format.specs.Component.{integer, idCount, listStart, rowCount, entryCount, entry, container};
+ghost use Rattle.apdu_format.specs.Rules.{content, knownKind, times};
+ghost use Rattle.apdu.specs.Values.{num, idAt, idList};
+ghost use Rattle.apdu_writing.specs.Quill.{Moves, Puts, Few, Known};
+use crate::quill::Quill;
+use crate::quill::put;
+use crate::quill::spend;
+
+// A count of ids.
+pub(crate) fn id_count(n: u64, out: &mut [u8], c: Quill) -> Quill
+    ensures { λ r. ⌜ Moves true (idCount ∷ []) ((listStart ∷ []) ++ times n (integer ∷ [])) c r (now (out .entry)) (now (out .exit)) (num n ∷ []) × Few n r ⌝ }
+{
+    put(out, 8, n, n <= apdu::MOST_COUNTED, c)
+}
+
+// A count of application entries.
+pub(crate) fn entry_count(n: u64, out: &mut [u8], c: Quill) -> Quill
+    ensures { λ r. ⌜ Moves true (entryCount ∷ []) (times n (entry ∷ [])) c r (now (out .entry)) (now (out .exit)) (num n ∷ []) × Few n r ⌝ }
+{
+    put(out, 8, n, n <= apdu::MOST_COUNTED, c)
+}
+
+// A count of attribute rows whose containers stand at the given depth.
+pub(crate) fn row_count(depth: usize, n: u64, out: &mut [u8], c: Quill) -> Quill
+    ensures { λ r. ⌜ Moves true (rowCount depth ∷ []) (times n (integer ∷ container depth ∷ [])) c r (now (out .entry)) (now (out .exit)) (num n ∷ []) ⌝ }
+{
+    let few = (n <= apdu::MOST_COUNTED) & (n <= c.room);
+    spend(n, put(out, 8, n, few, c))
+}
+
+// Whether a container kind is written here.
+pub(crate) fn known(kind: u64) -> bool
+    ensures { λ r. ⌜ r ≡ knownKind kind ⌝ }
+{
+    (kind == apdu::OCTET_STRING)
+        | (kind == apdu::DSRC_EID)
+        | (kind == apdu::ATTRIBUTE_ID_LIST)
+        | (kind == apdu::ATTRIBUTE_LIST)
+}
+
+// The kind of a container at the given depth.
+pub(crate) fn kind(depth: usize, k: u64, out: &mut [u8], c: Quill) -> Quill
+    ensures { λ r. ⌜ Moves true (container depth ∷ []) (content depth k) c r (now (out .entry)) (now (out .exit)) (num k ∷ []) × Known depth k r ⌝ }
+{
+    let fine = (depth <= apdu::DEEPEST) & known(k);
+    put(out, 8, k, fine, c)
+}
+
+// Id `i` of the list that stands in `lent` from bit place `start` on.
+fn id(lent: &[u8], start: usize, i: u64, out: &mut [u8], c: Quill) -> Quill
+    requires { ⌜ (start / 8 ≤ length (now lent)) × (i < 128) ⌝ }
+    ensures { λ r. ⌜ Puts true (integer ∷ []) c r (now (out .entry)) (now (out .exit)) (idAt (now (lent .entry)) (start + 8 * i) ∷ []) ⌝ }
+{
+    let first = start / 8;
+    let n = bits::read_field(&lent[first..], start % 8 + 8 * (i as usize), 8);
+    put(out, 8, n, n < 128, c)
+}
+
+// A list of n ids that stand in `lent` from bit place `start` on.
+pub(crate) fn ids(lent: &[u8], start: usize, n: u64, out: &mut [u8], c: Quill) -> Quill
+    ensures { λ r. ⌜ Puts (isInside (length (now (lent .entry))) start n) (idCount ∷ []) c r (now (out .entry)) (now (out .exit)) (idList (now (lent .entry)) start n) ⌝ }
+{
+    let d = id_count(n, out, c);
+    if !d.ok {
+        return d;
+    }
+    if !bits::inside(lent.len(), start, n as usize) {
+        return Quill {
+            at: d.at,
+            room: d.room,
+            ok: false,
+        };
+    }
+    let mut e = d;
+    let mut i: u64 = 0;
+    while i < n {
+        e = id(lent, start, i, out, e);
+        i += 1;
+    }
+    e
+}

@@ -1,0 +1,15 @@
+// Writing a message.
+mod component;
+mod container;
+mod counted;
+mod entries;
+mod kinds;
+mod link;
+mod lists;
+mod message;
+mod quill;
+mod rows;
+mod writing;
+
+pub use writing::ApduWritten;
+pub use writing::write;

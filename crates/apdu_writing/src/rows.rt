@@ -1,0 +1,89 @@
+// Attribute rows, one after the other.
+ghost use mathlib.Core.Path.{_≡_};
+ghost use Prim.Native.Nat.{_-_, _≤_};
+ghost use lib.ListN.{length, take, drop};
+ghost use lib.Dec.{eqb};
+ghost use Rattle.apdu.specs.Values.{rowsValues};
+ghost use Rattle.apdu_writing.specs.Quill.{Puts, clampedTo, halted};
+ghost use Rattle.apdu_writing.specs.Rows.{total, dueList};
+ghost use Rattle.apdu_writing.specs.Sound.{rowsSound};
+use crate::container::Due;
+use crate::container::next_row;
+use crate::quill::Quill;
+use apdu::Row;
+
+// Whether no row is due.
+fn finished(u: Due) -> bool
+    ensures { λ r. ⌜ r ≡ eqb (total u) 0 ⌝ }
+{
+    if u.d5 != 0 {
+        return false;
+    }
+    if u.d4 != 0 {
+        return false;
+    }
+    if u.d3 != 0 {
+        return false;
+    }
+    if u.d2 != 0 {
+        return false;
+    }
+    u.d1 == 0
+}
+
+// How many of `count` places from `first` on are among 32.
+pub(crate) fn clamped(first: usize, count: usize) -> usize
+    ensures { λ r. ⌜ (r ≡ clampedTo (32 - first) count) × (r ≤ 32 - first) ⌝ }
+{
+    if 32 <= first {
+        return 0;
+    }
+    if 32 - first < count {
+        return 32 - first;
+    }
+    count
+}
+
+pub(crate) fn halt(c: Quill) -> Quill
+    ensures { λ r. ⌜ r ≡ halted c ⌝ }
+{
+    Quill {
+        at: c.at,
+        room: c.room,
+        ok: false,
+    }
+}
+
+// The `count` rows of the table from `first` on, which are those that are due.
+pub(crate) fn rows(
+    lent: &[u8],
+    table: [Row; 32],
+    first: usize,
+    count: usize,
+    due: Due,
+    out: &mut [u8],
+    c: Quill,
+) -> Quill
+    ensures { λ r. ⌜ Puts (rowsSound (length (now (lent .entry))) (total due) (take count (drop first table))) (dueList due) c r (now (out .entry)) (now (out .exit)) (rowsValues (now (lent .entry)) (take count (drop first table))) ⌝ }
+{
+    let n = clamped(first, count);
+    let mut d = c;
+    let mut u = due;
+    let mut i: usize = 0;
+    while i < n {
+        if finished(u) {
+            return halt(d);
+        }
+        let w = table[first + i];
+        let t = next_row(lent, w, u, out, d);
+        let q = t.quill;
+        let v = t.due;
+        d = q;
+        u = v;
+        i += 1;
+    }
+    if finished(u) {
+        return d;
+    }
+    halt(d)
+}

@@ -1,0 +1,66 @@
+// Writing a message.
+ghost use mathlib.Core.Path.{_≡_};
+ghost use lib.ListN.{length};
+ghost use Rattle.apdu_writing.specs.Answer.{answerOf, writeAnswer, writeOutput};
+use crate::message::put_message;
+use crate::quill::Quill;
+use apdu::Entry;
+use apdu::Message;
+use apdu::Row;
+
+// What writing answers: 23, 21 with its position, 22, or how many octets were written.
+pub enum ApduWritten {
+    RecordOutOfRange,
+    MessageTooLong(usize),
+    OutputTooSmall,
+    Octets(usize),
+}
+
+// Writes the message to the front of `out`; every other octet of `out` stays. A refusal changes nothing: 23 where the record breaks a range, a limit or a
+// depth of what is present, or a part lies outside `lent`; then 21 above 512 octets; then 22 where `out` is too short.
+pub fn write(
+    message: Message,
+    rows: [Row; 32],
+    entries: [Entry; 32],
+    lent: &[u8],
+    out: &mut [u8],
+) -> ApduWritten
+    ensures { λ r. ⌜ (answerOf r ≡ writeAnswer (now (lent .entry)) message entries rows (length (now (out .entry)))) × (now (out .exit) ≡ writeOutput (now (lent .entry)) message entries rows (now (out .entry))) ⌝ }
+{
+    let mut none: [u8; 1] = [0; 1];
+    let size = put_message(
+        lent,
+        message,
+        entries,
+        rows,
+        &mut none,
+        Quill {
+            at: 0,
+            room: 32,
+            ok: true,
+        },
+    );
+    if !size.ok {
+        return ApduWritten::RecordOutOfRange;
+    }
+    let octets = size.at / 8;
+    if apdu::LONGEST_MESSAGE < octets {
+        return ApduWritten::MessageTooLong(apdu::LONGEST_MESSAGE);
+    }
+    if out.len() < octets {
+        return ApduWritten::OutputTooSmall;
+    }
+    let done = put_message(
+        lent,
+        message,
+        entries,
+        rows,
+        out,
+        Quill {
+            at: 0,
+            room: 32,
+            ok: true,
+        },
+    );
+    ApduWritten::Octets(octets)
+}

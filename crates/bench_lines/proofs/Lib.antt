@@ -1,0 +1,9 @@
+pub mod Appending
+pub mod Decimal
+pub mod Form
+pub mod Keeping
+pub mod Marks
+pub mod Parts
+pub mod Reading
+pub mod RoundTrip
+pub mod Spelling

@@ -1,0 +1,6 @@
+pub mod Inside
+pub mod Line
+pub mod Numerals
+pub mod RoundTrip
+pub mod Splitting
+pub mod Text
