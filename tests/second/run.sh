@@ -3,7 +3,7 @@
 set -eu
 cd "$(dirname "${BASH_SOURCE[0]}")"
 export CARGO_TARGET_DIR="$PWD/../../target/second"
-cargo test --release --quiet
+cargo test --release --quiet --lib
 cargo build --release --quiet
 for seed in 1 2 3; do
     "$CARGO_TARGET_DIR/release/second" check-joining "$seed" 300
