@@ -24,9 +24,10 @@ use Rattle.apdu.specs.declared.lists.Entry.{Entry}
 use Rattle.apdu.specs.declared.records.Message.{Message}
 use Rattle.apdu.specs.Values.{valuesOf}
 use Rattle.apdu_writing.specs.declared.quill.Quill.{Quill}
-use Rattle.apdu_writing.specs.Sound.{sound}
+use Rattle.apdu.specs.Sound.{sound}
 use Rattle.apdu_writing.specs.Quill.{quill, far, least, penAt, writes, Goes, Stops, Moves, Puts}
-use Rattle.apdu_writing.specs.Answer.{Answer, refused, refusedAt, wellFormed, writeRefusal, answered, writeAnswer, writeOutput}
+use Rattle.apdu_writing.specs.Answer.{Answer, refused, refusedAt, writeRefusal, answered, writeAnswer, writeOutput}
+use Rattle.apdu.specs.Sound.{wellFormed}
 use Rattle.apdu_writing.specs.Answer.{octets as so-many}
 use Rattle.apdu_writing.proofs.Levels.{writes-none}
 use Rattle.apdu_writing.proofs.Chains.{near-is}
@@ -124,6 +125,10 @@ module _ (s : List ℕ) (m : Message) (es : List Entry) (rs : List Row) (out : L
     formed : r .ok ≡ true → wellFormed s m es rs ≡ true
     unfolding wellFormed
     formed h = in-range p h
+
+    pub tells : r .ok ≡ wellFormed s m es rs
+    unfolding wellFormed
+    tells = by-cases (r .ok) (λ h. h ∙ sym (in-range p h)) (λ h. h ∙ sym (out-of-range p h))
 
     pub writes-23 : not (r .ok) ≡ true → Told (refused 23) out
     unfolding wellFormed writeAnswer writeOutput answered

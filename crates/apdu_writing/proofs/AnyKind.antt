@@ -21,7 +21,7 @@ use Rattle.apdu.specs.declared.records.Bst.{Bst}
 use Rattle.apdu.specs.declared.records.Vst.{Vst}
 use Rattle.apdu.specs.Values.{valuesOf, requestValues, actionResponseValues, responseValues, setRequestValues, getRequestValues, getResponseValues, bstValues, vstValues}
 use Rattle.apdu_writing.specs.declared.quill.Quill.{Quill}
-use Rattle.apdu_writing.specs.Sound.{sound, requestSound, actionResponseSound, setRequestSound, getRequestSound, getResponseSound, bstSound, vstSound}
+use Rattle.apdu.specs.Sound.{sound, requestSound, actionResponseSound, setRequestSound, getRequestSound, getResponseSound, bstSound, vstSound}
 use Rattle.apdu_writing.specs.Quill.{Moves, Puts}
 use Rattle.apdu_writing.proofs.Chains.{then}
 

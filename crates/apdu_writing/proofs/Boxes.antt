@@ -13,7 +13,7 @@ use Rattle.apdu.specs.declared.lists.Row.{Row}
 use Rattle.apdu.specs.Values.{num, headValues, rowsValues, containerValues}
 use Rattle.apdu_writing.specs.declared.quill.Quill.{Quill}
 use Rattle.apdu_writing.specs.declared.container.Due.{Due}
-use Rattle.apdu_writing.specs.Sound.{nested, rowsSound, containerSound}
+use Rattle.apdu.specs.Sound.{nested, rowsSound, containerSound}
 use Rattle.apdu_writing.specs.Quill.{Moves, Puts}
 use Rattle.apdu_writing.specs.Rows.{row, total, dueList, Opens}
 use Rattle.apdu_writing.proofs.Chains.{then}

@@ -23,7 +23,7 @@ use Rattle.apdu.specs.declared.lists.Entry.{Entry}
 use Rattle.apdu.specs.Values.{bitOf, num, num-if, if, containerValues, entryValues, entriesValues, rowsOf, emptyEntry}
 use Rattle.apdu_writing.specs.declared.quill.Quill.{Quill}
 use Rattle.apdu_writing.specs.declared.entries.EntriesPut.{EntriesPut}
-use Rattle.apdu_writing.specs.Sound.{soundIf, containerSound, entrySound, entriesSound}
+use Rattle.apdu.specs.Sound.{soundIf, containerSound, entrySound, entriesSound}
 use Rattle.apdu_writing.specs.Quill.{Put, Moves, Puts, Small, Few}
 use Rattle.apdu_writing.specs.Applications.{Listed}
 use Rattle.apdu_writing.proofs.Chains.{nothing, idle, then, and-then, before}

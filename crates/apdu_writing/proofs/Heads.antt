@@ -19,7 +19,7 @@ use Rattle.apdu_format.specs.Reading.{Value}
 use Rattle.apdu_format.proofs.Tests.{never}
 use Rattle.apdu.specs.Values.{num, str, idList, headValues}
 use Rattle.apdu_writing.specs.declared.quill.Quill.{Quill}
-use Rattle.apdu_writing.specs.Sound.{partFits, nested}
+use Rattle.apdu.specs.Sound.{partFits, nested}
 use Rattle.apdu_writing.specs.Quill.{Goes, Stops, Moves, Puts, Known}
 use Rattle.apdu.specs.declared.lists.Row.{Row}
 use Rattle.apdu.specs.Values.{rowValues}

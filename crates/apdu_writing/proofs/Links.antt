@@ -26,7 +26,7 @@ use Rattle.apdu.specs.declared.records.Vst.{Vst}
 use Rattle.apdu.specs.Values.{bitOf, num, if, idList, entryValues, entriesValues, rowsOf, bstValues, vstValues}
 use Rattle.apdu_writing.specs.declared.quill.Quill.{Quill}
 use Rattle.apdu_writing.specs.declared.entries.EntriesPut.{EntriesPut}
-use Rattle.apdu_writing.specs.Sound.{soundIf, entrySound, entriesSound, bstSound, vstSound}
+use Rattle.apdu.specs.Sound.{soundIf, entrySound, entriesSound, bstSound, vstSound}
 use Rattle.apdu_writing.specs.Quill.{Put, Moves, Puts, Small}
 use Rattle.apdu_writing.specs.Applications.{Listed}
 use Rattle.apdu_writing.proofs.Chains.{nothing, idle, then, and-then, before}

@@ -23,7 +23,7 @@ use Rattle.apdu.specs.declared.records.GetResponse.{GetResponse}
 use Rattle.apdu.specs.Values.{bitOf, num, num-if, str, if, idList, containerValues, rowsValues, requestValues, actionResponseValues, setRequestValues, getRequestValues, getResponseValues}
 use Rattle.apdu_writing.specs.declared.quill.Quill.{Quill}
 use Rattle.apdu_writing.specs.Quill.{Put, Moves, Puts, Small}
-use Rattle.apdu_writing.specs.Sound.{soundIf, rowsSound, containerSound, requestSound, actionResponseSound, setRequestSound, getRequestSound, getResponseSound}
+use Rattle.apdu.specs.Sound.{soundIf, rowsSound, containerSound, requestSound, actionResponseSound, setRequestSound, getRequestSound, getResponseSound}
 use Rattle.apdu_writing.proofs.Chains.{nothing, then, and-then}
 use Rattle.apdu_writing.proofs.Components.{and-unit}
 use Rattle.apdu_writing.proofs.Leads.{nibble, bits-and, bits-fill, bits-fill-mode, is-set}

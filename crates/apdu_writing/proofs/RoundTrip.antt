@@ -19,8 +19,9 @@ use Rattle.apdu.specs.declared.lists.Row.{Row}
 use Rattle.apdu.specs.declared.lists.Entry.{Entry}
 use Rattle.apdu.specs.declared.records.Message.{Message}
 use Rattle.apdu.specs.Values.{valuesOf}
-use Rattle.apdu_writing.specs.Sound.{sound}
-use Rattle.apdu_writing.specs.Answer.{wellFormed, writeRefusal}
+use Rattle.apdu.specs.Sound.{sound}
+use Rattle.apdu_writing.specs.Answer.{writeRefusal}
+use Rattle.apdu.specs.Sound.{wellFormed}
 use Rattle.apdu_writing.proofs.Answers.{refusal-23, refusal-21}
 
 module _ (s : List ℕ) (m : Message) (es : List Entry) (rs : List Row) (out : List ℕ) (none : writeRefusal s m es rs (length out) ≡ 0) where

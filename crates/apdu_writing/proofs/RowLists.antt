@@ -21,7 +21,7 @@ use Rattle.apdu.specs.Values.{rowValues, rowsValues, emptyRow}
 use Rattle.apdu_writing.specs.declared.quill.Quill.{Quill}
 use Rattle.apdu_writing.specs.declared.container.Due.{Due}
 use Rattle.apdu_writing.specs.declared.container.RowPut.{RowPut}
-use Rattle.apdu_writing.specs.Sound.{partFits, nested, partsFit, closes, rowsSound}
+use Rattle.apdu.specs.Sound.{partFits, nested, partsFit, closes, rowsSound}
 use Rattle.apdu_writing.specs.Quill.{quill, Goes, Stops, Moves, Puts, halted, clampedTo}
 use Rattle.apdu_writing.specs.Rows.{total, dueList, Next}
 use Rattle.apdu_writing.proofs.Chains.{nothing, then}

@@ -2,19 +2,19 @@
 -- Assumes nothing.
 use Prim.Native.Nat.{ℕ, _*_}
 use mathlib.Core.List.{List, [], _∷_, _++_}
-use mathlib.Core.Bool.{Bool, _&&_, not}
+use mathlib.Core.Bool.{not}
 use lib.ListN.{length, drop}
 use lib.Dec.{ltb, eqb}
 use Rattle.refusals.specs.Check.{pick, Check, check, firstOf}
 use Rattle.apdu_format.specs.Limits.{longestMessage}
-use Rattle.apdu_format.specs.Writing.{inRange, size, encodedOctets}
+use Rattle.apdu_format.specs.Writing.{size, encodedOctets}
 use Rattle.apdu.specs.declared.lists.Row.{Row}
 use Rattle.apdu.specs.declared.lists.Entry.{Entry}
 use Rattle.apdu.specs.declared.records.Message.{Message}
 use Rattle.apdu.specs.Values.{valuesOf}
 use Rattle.apdu_writing.specs.declared.writing.ApduWritten.{ApduWritten}
 use Rattle.apdu_writing.specs.declared.writing.ApduWritten.the-variants as written
-use Rattle.apdu_writing.specs.Sound.{sound}
+use Rattle.apdu.specs.Sound.{wellFormed}
 
 -- 01's number, with its position where it has one; or how many octets were written
 pub data Answer : Type 0 where
@@ -27,10 +27,6 @@ answerOf written.RecordOutOfRange = refused 23
 answerOf (written.MessageTooLong p) = refusedAt 21 p
 answerOf written.OutputTooSmall = refused 22
 answerOf (written.Octets n) = octets n
-
--- a record that does not break the condition of 23: every value of what is present is in range, and every part and list is sound
-unfoldable pub wellFormed : List ℕ → Message → List Entry → List Row → Bool
-wellFormed s m es rs = inRange (valuesOf s m es rs) && sound (length s) m es rs
 
 -- the refusal of writing to an output of n octets, or 0
 unfoldable pub writeRefusal : List ℕ → Message → List Entry → List Row → ℕ → ℕ

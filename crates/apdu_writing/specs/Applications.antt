@@ -11,7 +11,7 @@ use Rattle.apdu.specs.declared.lists.Entry.{Entry}
 use Rattle.apdu.specs.Values.{num, entriesValues, rowsOf}
 use Rattle.apdu_writing.specs.declared.quill.Quill.{Quill}
 use Rattle.apdu_writing.specs.declared.entries.EntriesPut.{EntriesPut}
-use Rattle.apdu_writing.specs.Sound.{entriesSound}
+use Rattle.apdu.specs.Sound.{entriesSound}
 use Rattle.apdu_writing.specs.Quill.{Puts}
 
 -- a list of the n entries from one on is written, and so many rows are used

@@ -1,4 +1,3 @@
-pub mod Sound
 pub mod Quill
 pub mod Rows
 pub mod Applications

@@ -14,7 +14,7 @@ use Rattle.apdu.specs.Values.{headValues, rowValues, rowsValues}
 use Rattle.apdu_writing.specs.declared.quill.Quill.{Quill}
 use Rattle.apdu_writing.specs.declared.container.Due.{Due}
 use Rattle.apdu_writing.specs.declared.container.RowPut.{RowPut}
-use Rattle.apdu_writing.specs.Sound.{partFits, nested}
+use Rattle.apdu.specs.Sound.{partFits, nested}
 use Rattle.apdu_writing.specs.Quill.{Moves}
 
 -- an attribute whose container stands at depth d

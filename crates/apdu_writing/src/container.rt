@@ -2,7 +2,7 @@
 ghost use mathlib.Core.Path.{_≡_};
 ghost use mathlib.Core.List.{[], _∷_};
 ghost use Prim.Native.Nat.{_-_, _<_, _≤_};
-ghost use Rattle.apdu_writing.specs.Sound.{nested};
+ghost use Rattle.apdu.specs.Sound.{nested};
 ghost use Rattle.apdu_writing.specs.Rows.{levelOf, afterRow, total, Opens, Next, Deep};
 use crate::component::number;
 use crate::component::string;

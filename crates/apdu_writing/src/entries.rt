@@ -8,7 +8,7 @@ ghost use Rattle.apdu_format.specs.Component.{container, entry, entryCount};
 ghost use Rattle.apdu_format.specs.Rules.{when};
 ghost use Rattle.apdu.specs.Values.{if, containerValues, entryValues};
 ghost use Rattle.apdu_writing.specs.Quill.{Puts};
-ghost use Rattle.apdu_writing.specs.Sound.{soundIf, containerSound, entrySound};
+ghost use Rattle.apdu.specs.Sound.{soundIf, containerSound, entrySound};
 ghost use Rattle.apdu_writing.specs.Applications.{Listed};
 use crate::component::number_if;
 use crate::counted::entry_count;

@@ -8,7 +8,7 @@ ghost use Rattle.apdu_format.specs.Component.{lead, choice};
 ghost use Rattle.apdu_format.specs.Reading.{fields};
 ghost use Rattle.apdu.specs.Values.{bitOf, responseValues, requestValues, actionResponseValues, setRequestValues, getRequestValues, getResponseValues};
 ghost use Rattle.apdu_writing.specs.Quill.{Moves, Puts, Small};
-ghost use Rattle.apdu_writing.specs.Sound.{requestSound, actionResponseSound, setRequestSound, getRequestSound, getResponseSound};
+ghost use Rattle.apdu.specs.Sound.{requestSound, actionResponseSound, setRequestSound, getRequestSound, getResponseSound};
 use crate::component::number;
 use crate::component::number_if;
 use crate::component::string_if;

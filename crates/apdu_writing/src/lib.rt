@@ -12,4 +12,5 @@ mod rows;
 mod writing;
 
 pub use writing::ApduWritten;
+pub use writing::well_formed;
 pub use writing::write;

@@ -9,7 +9,7 @@ ghost use Rattle.apdu_format.specs.Rules.{when};
 ghost use Rattle.apdu_format.specs.Reading.{fields};
 ghost use Rattle.apdu.specs.Values.{bitOf, num, if, entriesValues, bstValues, vstValues};
 ghost use Rattle.apdu_writing.specs.Quill.{Moves, Puts};
-ghost use Rattle.apdu_writing.specs.Sound.{soundIf, entriesSound, bstSound, vstSound};
+ghost use Rattle.apdu.specs.Sound.{soundIf, entriesSound, bstSound, vstSound};
 use crate::component::number;
 use crate::counted::ids;
 use crate::entries::applications;

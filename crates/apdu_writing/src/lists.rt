@@ -8,7 +8,7 @@ ghost use Rattle.apdu_format.specs.Rules.{when};
 ghost use Rattle.bits.specs.Strings.{isInside};
 ghost use Rattle.apdu.specs.Values.{num, if, idList, containerValues, rowsValues};
 ghost use Rattle.apdu_writing.specs.Quill.{Puts};
-ghost use Rattle.apdu_writing.specs.Sound.{soundIf, rowsSound, containerSound};
+ghost use Rattle.apdu.specs.Sound.{soundIf, rowsSound, containerSound};
 use crate::container::Due;
 use crate::container::announces;
 use crate::container::head;

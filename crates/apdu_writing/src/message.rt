@@ -5,7 +5,7 @@ ghost use lib.ListN.{length};
 ghost use Rattle.apdu_format.specs.Component.{choice};
 ghost use Rattle.apdu.specs.Values.{valuesOf};
 ghost use Rattle.apdu_writing.specs.Quill.{Puts};
-ghost use Rattle.apdu_writing.specs.Sound.{sound};
+ghost use Rattle.apdu.specs.Sound.{sound};
 use crate::kinds::action_response;
 use crate::kinds::choice;
 use crate::kinds::get_request;

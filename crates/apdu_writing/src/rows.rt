@@ -6,7 +6,7 @@ ghost use lib.Dec.{eqb};
 ghost use Rattle.apdu.specs.Values.{rowsValues};
 ghost use Rattle.apdu_writing.specs.Quill.{Puts, clampedTo, halted};
 ghost use Rattle.apdu_writing.specs.Rows.{total, dueList};
-ghost use Rattle.apdu_writing.specs.Sound.{rowsSound};
+ghost use Rattle.apdu.specs.Sound.{rowsSound};
 use crate::container::Due;
 use crate::container::next_row;
 use crate::quill::Quill;

@@ -1,12 +1,33 @@
 // Writing a message.
 ghost use mathlib.Core.Path.{_≡_};
 ghost use lib.ListN.{length};
+ghost use Rattle.apdu.specs.Sound.{wellFormed};
 ghost use Rattle.apdu_writing.specs.Answer.{answerOf, writeAnswer, writeOutput};
 use crate::message::put_message;
 use crate::quill::Quill;
 use apdu::Entry;
 use apdu::Message;
 use apdu::Row;
+
+// Whether a record keeps the condition of 23: each range, limit and depth of what is present, and each part inside `lent`.
+pub fn well_formed(message: Message, rows: [Row; 32], entries: [Entry; 32], lent: &[u8]) -> bool
+    ensures { λ r. ⌜ r ≡ wellFormed (now (lent .entry)) message entries rows ⌝ }
+{
+    let mut none: [u8; 1] = [0; 1];
+    let size = put_message(
+        lent,
+        message,
+        entries,
+        rows,
+        &mut none,
+        Quill {
+            at: 0,
+            room: 32,
+            ok: true,
+        },
+    );
+    size.ok
+}
 
 // What writing answers: 23, 21 with its position, 22, or how many octets were written.
 pub enum ApduWritten {

@@ -9,18 +9,19 @@ use lib.Dec.{eqb}
 use Rattle.refusals.specs.Check.{pick}
 use Rattle.bits.specs.Strings.{isInside}
 use Rattle.apdu_format.specs.Component.{octetString, attributeIdList, attributeList}
+use Rattle.apdu_format.specs.Writing.{inRange}
 use Rattle.apdu.specs.declared.lists.Row.{Row}
 use Rattle.apdu.specs.declared.lists.Entry.{Entry}
 use Rattle.apdu.specs.declared.records.Request.{Request}
 use Rattle.apdu.specs.declared.records.ActionResponse.{ActionResponse}
 use Rattle.apdu.specs.declared.records.SetRequest.{SetRequest}
 use Rattle.apdu.specs.declared.records.GetRequest.{GetRequest}
 use Rattle.apdu.specs.declared.records.GetResponse.{GetResponse}
 use Rattle.apdu.specs.declared.records.Bst.{Bst}
 use Rattle.apdu.specs.declared.records.Vst.{Vst}
 use Rattle.apdu.specs.declared.records.Message.{Message}
 use Rattle.apdu.specs.declared.records.Message.the-variants as kind
-use Rattle.apdu.specs.Values.{rowsOf}
+use Rattle.apdu.specs.Values.{rowsOf, valuesOf}
 
 -- whether the lent octets, so many of them, hold the string or the ids of a container
 unfoldable pub partFits : (octets kind n start : ℕ) → Bool
@@ -99,3 +100,7 @@ sound octets (kind.GetRequest m) es rs = getRequestSound octets m
 sound octets (kind.GetResponse m) es rs = getResponseSound octets m rs
 sound octets (kind.Bst m) es rs = bstSound octets m es rs
 sound octets (kind.Vst m) es rs = vstSound octets m es rs
+
+-- a record that does not break the condition of 23: every value of what is present is in range, and every part and list is sound
+unfoldable pub wellFormed : List ℕ → Message → List Entry → List Row → Bool
+wellFormed s m es rs = inRange (valuesOf s m es rs) && sound (length s) m es rs
