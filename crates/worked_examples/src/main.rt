@@ -3,8 +3,10 @@
 mod fragment_header;
 mod message;
 mod print;
+mod record;
 
 fn main() {
     fragment_header::run();
     message::run();
+    record::run();
 }

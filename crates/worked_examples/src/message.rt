@@ -1,11 +1,14 @@
-// 01, "Messages": `message OCTETS: KIND to END`, END being the bit place behind the message, or `refused-N at POSITION`.
+// 01, "Messages": `message OCTETS: KIND to END, again OCTETS`, END being the bit place behind the message and the octets what writing the record gives;
+// or `refused-N at POSITION`.
 use crate::print::decimal;
+use crate::print::first_octets;
 use crate::print::octets;
 use crate::print::refused;
 use crate::print::text;
 use apdu::Entry;
 use apdu::Message;
 use apdu_reading::Answer;
+use apdu_writing::ApduWritten;
 
 fn kind(m: Message) {
     match m {
@@ -33,6 +36,15 @@ fn entry(e: Entry) {
     decimal(e.start as u64);
 }
 
+// What the record is written as, from its front on.
+fn again(w: ApduWritten, out: &[u8]) {
+    text(b", again");
+    match w {
+        ApduWritten::Octets(n) => first_octets(out, n),
+        _ => text(b" refused"),
+    }
+}
+
 fn read(s: &[u8]) {
     text(b"message");
     octets(s);
@@ -41,6 +53,9 @@ fn read(s: &[u8]) {
     let answer = r.answer;
     let lists = r.lists;
     let first = lists.entries[0];
+    let rows = lists.rows;
+    let entries = lists.entries;
+    let mut out = [0u8; 512];
     match answer {
         Answer::Message(m) => {
             kind(m);
@@ -49,6 +64,7 @@ fn read(s: &[u8]) {
             if first.has_parameter {
                 entry(first);
             }
+            again(apdu_writing::write(m, rows, entries, s, &mut out), &out);
         }
         Answer::Refused(number, position) => {
             refused(number);

@@ -14,12 +14,20 @@ fn octet(o: u8) {
     io::print_hex(STDOUT_FILENO, o as u64, 2);
 }
 
-pub(crate) fn octets(s: &[u8]) {
+// The first n octets, or all where there are fewer.
+pub(crate) fn first_octets(s: &[u8], n: usize) {
     let mut k: usize = 0;
     while k < s.len() {
+        if n <= k {
+            return;
+        }
         octet(s[k]);
         k += 1;
     }
+}
+
+pub(crate) fn octets(s: &[u8]) {
+    first_octets(s, s.len());
 }
 
 pub(crate) fn refused(number: u8) {

@@ -1,0 +1,117 @@
+// 01, "Messages": writing. `write LABEL into N: OCTETS` gives all N octets of the output afterwards, which were FF; or `refused-N`, with 21 `at 512`.
+use crate::print::decimal;
+use crate::print::octets;
+use crate::print::refused;
+use crate::print::text;
+use apdu::Message;
+use apdu::Request;
+use apdu_writing::ApduWritten;
+
+fn write(label: &[u8], m: Message, lent: &[u8], out: &mut [u8]) {
+    text(b"write ");
+    text(label);
+    text(b" into ");
+    decimal(out.len() as u64);
+    text(b":");
+    let answer = apdu_writing::write(m, apdu::no_rows(), apdu::no_entries(), lent, out);
+    match answer {
+        ApduWritten::RecordOutOfRange => {
+            text(b" ");
+            refused(refusals::RECORD_OUT_OF_RANGE);
+        }
+        ApduWritten::MessageTooLong(position) => {
+            text(b" ");
+            refused(refusals::APDU_TOO_LONG);
+            text(b" at ");
+            decimal(position as u64);
+        }
+        ApduWritten::OutputTooSmall => {
+            text(b" ");
+            refused(refusals::OUTPUT_TOO_SMALL);
+        }
+        ApduWritten::Octets(_) => octets(out),
+    }
+    text(b"\n");
+}
+
+// An event request; what is absent holds numbers that no message could carry.
+fn release(eid: u64) -> Request {
+    Request {
+        mode: false,
+        eid,
+        service: 0,
+        has_credentials: false,
+        credentials: 9999,
+        credentials_length: 255,
+        has_parameter: false,
+        kind: 200,
+        n: 200,
+        start: 9999,
+        rows: 40,
+        has_iid: false,
+        iid: 4096,
+    }
+}
+
+// An ECHO request whose string has n octets from bit place `start` of the lent ones on.
+fn echo(kind: u64, n: u64, start: usize) -> Request {
+    Request {
+        mode: true,
+        eid: 0,
+        service: 15,
+        has_credentials: false,
+        credentials: 0,
+        credentials_length: 0,
+        has_parameter: true,
+        kind,
+        n,
+        start,
+        rows: 0,
+        has_iid: false,
+        iid: 0,
+    }
+}
+
+fn into_five(label: &[u8], m: Message) {
+    let lent = [0x41u8, 0x42];
+    let mut out = [0xFFu8; 5];
+    write(label, m, &lent, &mut out);
+}
+
+fn into_eight(label: &[u8], m: Message) {
+    let lent = [0x41u8, 0x42];
+    let mut out = [0xFFu8; 8];
+    write(label, m, &lent, &mut out);
+}
+
+pub(crate) fn run() {
+    // absent fields are passed over, whatever they hold; the rest of the output stays
+    into_five(b"release", Message::EventRequest(release(0)));
+    into_five(b"release to eid 127", Message::EventRequest(release(127)));
+    into_five(b"release to eid 128", Message::EventRequest(release(128)));
+    into_five(
+        b"echo of both octets",
+        Message::ActionRequest(echo(2, 2, 0)),
+    );
+    into_eight(
+        b"echo of both octets",
+        Message::ActionRequest(echo(2, 2, 0)),
+    );
+    into_eight(b"echo from bit 4", Message::ActionRequest(echo(2, 1, 4)));
+    into_eight(
+        b"echo of an octet too many",
+        Message::ActionRequest(echo(2, 3, 0)),
+    );
+    into_eight(
+        b"empty echo at the end",
+        Message::ActionRequest(echo(2, 0, 16)),
+    );
+    into_eight(
+        b"empty echo behind the end",
+        Message::ActionRequest(echo(2, 0, 17)),
+    );
+    into_eight(
+        b"parameter of kind 3",
+        Message::ActionRequest(echo(3, 0, 0)),
+    );
+}
