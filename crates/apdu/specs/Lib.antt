@@ -1,3 +1,4 @@
 pub mod Values
 pub mod Tidy
 pub mod Sound
+pub mod RowCounters

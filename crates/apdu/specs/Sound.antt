@@ -1,8 +1,8 @@
 -- What a record must meet besides the ranges of its values (01, row 23): each part of the lent octets lies inside them, and each attribute list has as
 -- many rows as its counts announce, nested ones too. Absent fields and unused rows are passed over.
 -- Assumes nothing.
-use Prim.Native.Nat.{ℕ, zero, suc, _+_, _*_}
-use mathlib.Core.List.{List, [], _∷_, _++_}
+use Prim.Native.Nat.{ℕ, zero, suc, _+_}
+use mathlib.Core.List.{List, [], _∷_}
 use mathlib.Core.Bool.{Bool, true, false, _&&_}
 use lib.ListN.{length, take, drop}
 use lib.Dec.{eqb}

@@ -1,13 +1,14 @@
-// The rows and entries that stand beside a message.
+// The rows and entries that stand beside a message. Their fields fill their structs without gaps, so that an array of them is cleared and copied as one
+// block.
 ghost use mathlib.Core.Path.{_≡_};
 ghost use lib.ListN.{replicate};
 ghost use Rattle.apdu.specs.Values.{emptyRow, emptyEntry};
 
 // An attribute and its container: n is a string's length, an EID, or a count; a list of n rows is followed by its rows.
 pub struct Row {
-    pub id: u8,
-    pub kind: u8,
-    pub n: u8,
+    pub id: u16,
+    pub kind: u16,
+    pub n: u32,
     pub start: usize,
 }
 
@@ -18,9 +19,9 @@ pub struct Entry {
     pub aid: u8,
     pub eid: u8,
     pub kind: u8,
-    pub n: u8,
-    pub start: usize,
     pub rows: u8,
+    pub n: u16,
+    pub start: usize,
 }
 
 // The entries and rows of a message, in its order; unused ones are 0.

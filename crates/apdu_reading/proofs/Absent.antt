@@ -1,6 +1,6 @@
 -- Components that may be absent.
 -- Assumes nothing.
-use Prim.Native.Nat.{ℕ, _-_, _<_}
+use Prim.Native.Nat.{ℕ, _<_}
 use mathlib.Core.Path.{_≡_, refl}
 use mathlib.Core.List.{List, [], _∷_, append-nil}
 use mathlib.Core.Bool.{Bool, true, false}
@@ -11,7 +11,8 @@ use Rattle.apdu_format.specs.Reading.{Value}
 use Rattle.apdu.specs.Values.{num-if, if}
 use Rattle.apdu_reading.specs.declared.cursor.Cursor.{Cursor}
 use Rattle.apdu_reading.specs.declared.container.Head.{Head}
-use Rattle.apdu_reading.specs.Cursor.{stateOf, component, markedAt, Reads}
+use Rattle.apdu.specs.Sound.{partFits}
+use Rattle.apdu_reading.specs.Cursor.{stateOf, component, markedAt, Reads, Inside}
 use Rattle.apdu_reading.specs.Rows.{Opens}
 use Rattle.apdu_reading.specs.Optional.{Maybe, HeadMaybe, AttributesMaybe}
 use Rattle.apdu_reading.proofs.Chains.{same, nothing}
@@ -26,21 +27,26 @@ pub integer-maybe : (s : List ℕ) (p : Bool) (c : Cursor) {r : Cursor} → p �
 integer-maybe s p c t e =
     record { reads = rw t (integer-reads s c (e .0)); small = e .1; room = integer-room s c (e .0); absent = λ f. unlike t f }
 
-pub present-maybe : (s : List ℕ) (p : Bool) (is : List Component) (c : Cursor) {r : Cursor} {vs : List Value} → p ≡ true → Reads s is c r vs × (r .value < 128) × (r .room ≡ c .room) → Maybe s p is c r (if p vs)
-present-maybe s p is c t e = record { reads = rw t (e .0); small = e .1; room = e .2; absent = λ f. unlike t f }
+pub part-there : (s : List ℕ) (p : Bool) (is : List Component) (c : Cursor) {r : Cursor} {vs : List Value} → p ≡ true → Reads s is c r vs × (r .value < 128) × (r .room ≡ c .room) × Inside s true r
+    → Maybe s p is c r (if p vs) × Inside s p r
+part-there s p is c t e = (record { reads = rw t (e .0); small = e .1; room = e .2; absent = λ f. unlike t f }, rw t (e .3))
 
 pub absent-maybe : (s : List ℕ) (p : Bool) (is : List Component) (c : Cursor) {r : Cursor} (vs : List Value) → p ≡ false → r ≡ markedAt c 0 0 → Maybe s p is c r (if p vs)
 unfolding markedAt
 absent-maybe s p is c vs f e = rw (e, f) (record { reads = nothing s (same c 0 0); small = omega arith; room = refl; absent = λ g. (refl, refl) })
 
+pub part-absent : (s : List ℕ) (p : Bool) (is : List Component) (c : Cursor) {r : Cursor} (vs : List Value) → p ≡ false → r ≡ markedAt c 0 0
+    → Maybe s p is c r (if p vs) × Inside s p r
+part-absent s p is c vs f e = (absent-maybe s p is c vs f e, record { so = λ h. rw f })
+
 pub head-there : (s : List ℕ) (p : Bool) (c : Cursor) {r : Head} → p ≡ true → Opens s 1 c r → HeadMaybe s p c r
 head-there s p c t o =
-    record { leads = rw t (record { so = o .so }); room = o .room; small = o .small; clean = o .clean; absent = λ f. unlike t f }
+    record { leads = rw t (record { so = o .so }); room = o .room; small = o .small; clean = o .clean; parts = o .parts; absent = λ f. unlike t f }
 
 pub head-absent : (s : List ℕ) (p : Bool) (c : Cursor) → p ≡ false → HeadMaybe s p c (head 0 0 0 c)
-unfolding times
+unfolding times partFits
 head-absent s p c f =
-    rw f (record { leads = record { so = λ log. rw append-nil }; room = λ z. omega arith; small = (omega arith, omega arith); clean = λ z. z; absent = λ g. (refl, refl, refl) })
+    rw f (record { leads = record { so = λ log. rw append-nil }; room = λ z. omega arith; small = (omega arith, omega arith); clean = λ z. z; parts = λ z. refl; absent = λ g. (refl, refl, refl) })
 
 pub attributes-there : (s : List ℕ) (p : Bool) (c : Cursor) {r : Cursor} → p ≡ true → (r ≡ component s (rowCount 1) c) × (r .value < 128) → AttributesMaybe s p c r
 attributes-there s p c t e =

@@ -1,31 +1,35 @@
 -- Containers and attribute lists with all their rows: what was announced is read behind what announced it.
 -- Assumes nothing.
-use Prim.Native.Nat.{ℕ, zero, suc, _+_, _-_, _≤_}
+use Prim.Native.Nat.{ℕ, zero, suc, _+_, _≤_}
 use mathlib.Core.Path.{_≡_, refl, ap, sym, _∙_}
-use mathlib.Core.List.{List, [], _∷_, _++_, append-assoc, append-nil}
+use mathlib.Core.List.{List, [], _∷_, _++_, append-assoc}
 use mathlib.Core.Bool.{Bool, true, false}
 use native.Mathlib.Omega.{arith}
 use lib.ListN.{length, getD, take, replicate}
 use lib.Dec.{eqb}
 use borrow.Author.Tests.{eq-eqb}
 use Rattle.refusals.specs.Check.{pick}
+use Rattle.refusals.proofs.Tests.{and-true}
 use Rattle.bits.specs.Bits.{bits}
-use Rattle.apdu_format.specs.Component.{Component, container}
+use Rattle.apdu_format.specs.Component.{Component}
 use Rattle.apdu_format.specs.Rules.{times}
 use Rattle.apdu_format.specs.Reading.{Value, State}
 use Rattle.apdu_format.proofs.Runs.{runs-none}
 use Rattle.apdu.specs.declared.lists.Row.{Row}
 use Rattle.apdu.specs.Values.{num, if, headValues, rowValues, rowsValues, emptyRow}
+use Rattle.apdu.specs.Sound.{nested, rowsSound, containerSound}
+use Rattle.apdu.proofs.Dues.{two, one, due-two, due-one, total-two, total-one}
 use Rattle.apdu_reading.specs.declared.cursor.Cursor.{Cursor}
 use Rattle.apdu_reading.specs.declared.container.Head.{Head}
-use Rattle.apdu_reading.specs.declared.container.Due.{Due}
+use Rattle.apdu.specs.declared.due.Due.{Due}
 use Rattle.apdu_reading.specs.declared.rows.Rows.{Rows}
 use Rattle.apdu_reading.specs.Cursor.{stateOf, Reads}
-use Rattle.apdu_reading.specs.Rows.{row, nested, total, dueList}
+use Rattle.apdu.specs.RowCounters.{row, total}
 use Rattle.apdu_reading.specs.Lists.{Leads, Ready, Filled}
 use Rattle.apdu_reading.specs.Optional.{HeadMaybe, AttributesMaybe}
 use Rattle.apdu_reading.specs.Boxed.{Boxed, Listed}
-use Rattle.apdu_reading.proofs.Chains.{valued}
+use Rattle.apdu_reading.proofs.Chains.{valued, clean}
+use Rattle.apdu_reading.proofs.Fill.{filled-none}
 
 -- ---- leads and readings
 
@@ -63,20 +67,6 @@ no-rows s zero rs h k = refl
 no-rows s (suc n) [] h k = absurd (omega arith)
 no-rows s (suc n) (r ∷ rs) h k = let z : _≡_ {A = ℕ} 0 1 = cc in absurd (omega arith)
 
-abbrev pub two : ℕ → Due
-two n = record { d1 = 0; d2 = n; d3 = 0; d4 = 0; d5 = 0 }
-
-abbrev one : ℕ → Due
-one n = record { d1 = n; d2 = 0; d3 = 0; d4 = 0; d5 = 0 }
-
-pub due-two : (n : ℕ) → dueList (two n) ≡ times n (row 2)
-unfolding dueList times
-due-two n = append-nil (times n (row 2))
-
-due-one : (n : ℕ) → dueList (one n) ≡ times n (row 1)
-unfolding dueList times
-due-one n = refl
-
 pub if-join : (p : Bool) (vs ws : List Value) → (p ≡ false → ws ≡ []) → if p vs ++ ws ≡ if p (vs ++ ws)
 if-join true vs ws h = refl
 if-join false vs ws h = h refl
@@ -98,10 +88,17 @@ module _ (s : List ℕ) (p : Bool) (c : Cursor) {h : Head} (m : HeadMaybe s p c 
         let b : nested (h .kind) (h .n) ≡ 0 = rw (a .0) in
         found-nothing (rw b at rows-read) g
 
+    box-sound : q .cursor .fault ≡ 0 → containerSound (length s) (h .kind) (h .n) (h .start) (take (q .used) (q .rows)) ≡ true
+    unfolding containerSound
+    box-sound g =
+        let t : nested (h .kind) (h .n) ≡ total (two n) = sym (total-two n ∙ e) in
+        and-true (m .parts (clean (f .reads) g)) (ap (λ (k : ℕ). rowsSound (length s) k (take (q .used) (q .rows))) t ∙ f .sound g)
+
     pub boxed : Boxed s p c (record { kind = h .kind; n = h .n; start = h .start; rows = q })
     boxed =
         record {
           reads = valued (λ g. if-join p (headValues s (h .kind) (h .n) (h .start)) (rowsValues s (take (q .used) (q .rows))) (λ z. none-found z g)) (and-then (m .leads) rows-read);
+          sound = box-sound;
           absent = m .absent;
           kept =
               record {
@@ -110,6 +107,10 @@ module _ (s : List ℕ) (p : Bool) (c : Cursor) {h : Head} (m : HeadMaybe s p c 
                 few = f .few;
               };
         }
+
+  pub boxed-alone : {rows : List Row} → c .room ≡ 32 → rows ≡ replicate 32 emptyRow → n ≡ 0
+      → Boxed s p c (record { kind = h .kind; n = h .n; start = h .start; rows = rowsAt (h .cursor) 0 rows })
+  boxed-alone r f z = boxed (filled-none s (two n) (box-ready r f) (total-two n ∙ z))
 
 -- ---- an attribute list with its rows
 
@@ -129,6 +130,7 @@ module _ (s : List ℕ) (p : Bool) (c : Cursor) {d : Cursor} (m : AttributesMayb
     listed =
         record {
           reads = valued (λ g. if-join p (num (d .value) ∷ []) (rowsValues s (take (q .used) (q .rows))) (λ z. nothing-found z g)) (and-then (m .leads) list-read);
+          sound = λ g. ap (λ (k : ℕ). rowsSound (length s) k (take (q .used) (q .rows))) (sym (total-one (d .value))) ∙ f .sound g;
           absent = m .absent;
           kept =
               record {

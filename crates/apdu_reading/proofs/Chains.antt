@@ -1,6 +1,6 @@
 -- Readings put together: one component and what it brings, one after the other.
 -- Assumes nothing.
-use Prim.Native.Nat.{ℕ, _+_, _-_}
+use Prim.Native.Nat.{ℕ}
 use mathlib.Core.Path.{_≡_, refl, ap, sym, _∙_}
 use mathlib.Core.List.{List, [], _∷_, _++_, append-assoc, append-nil}
 use mathlib.Core.Bool.{Bool, true, false}
@@ -13,7 +13,6 @@ use Rattle.apdu_format.specs.Component.{Component}
 use Rattle.apdu_format.specs.Rules.{brings}
 use Rattle.apdu_format.specs.Reading.{Value, numbersOf, State, Step, beginning, faultOf, judged, step, runs}
 use Rattle.apdu_format.proofs.Runs.{runs-none, runs-append, runs-one, runs-stopped}
-use Rattle.apdu.specs.Values.{if}
 use Rattle.apdu_reading.specs.declared.cursor.Cursor.{Cursor}
 use Rattle.apdu_reading.specs.Cursor.{cursor, stateOf, component, Reads}
 use Rattle.apdu_reading.proofs.Pieces.{sees}

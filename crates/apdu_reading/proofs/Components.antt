@@ -18,7 +18,7 @@ use Rattle.apdu_format.specs.Limits.{mostCounted, deepest}
 use Rattle.apdu_format.specs.Component.{Component, choice, lead, integer, fixed, stringForm, stringLength, stringOctets, idCount, listStart, rowCount, entryCount, entry, container, class}
 use Rattle.apdu_format.specs.Table.{table, layoutOf}
 use Rattle.apdu_format.specs.Rules.{extensible, shape, begins, isSet, after, knownKind, checksOf, announced}
-use Rattle.apdu_format.specs.Reading.{string, numbersOf, sum, need, fieldsOf, valueAt}
+use Rattle.apdu_format.specs.Reading.{numbersOf, sum, need, fieldsOf, valueAt}
 use Rattle.apdu_reading.specs.declared.cursor.Cursor.{Cursor}
 use Rattle.apdu_reading.specs.Cursor.{cursor, component, judgedBy, pieceOf, spent}
 use Rattle.apdu_reading.proofs.Pieces.{sees, checksAt, judgedAll, spentBy, piece-stopped, piece-cut, piece-read, Good, good, fine, component-is, unspent, judged-none, judged-next, judged-last, judged-as, judged-clean}

@@ -5,6 +5,7 @@ use mathlib.Core.Path.{_≡_, refl, ap, sym, _∙_}
 use mathlib.Core.List.{List, [], _∷_, _++_, append-assoc}
 use mathlib.Core.Bool.{Bool, true, false, _||_, not}
 use native.Mathlib.Omega.{arith}
+use lib.ListN.{length}
 use lib.Dec.{ltb, eqb}
 use borrow.Author.Tests.{eq-eqb, ne-eqb, ltb-false, eqb-true, eqb-false}
 use Rattle.refusals.specs.Check.{check, firstOf}
@@ -18,8 +19,10 @@ use Rattle.apdu_format.proofs.Runs.{runs-none, runs-one}
 use Rattle.apdu.specs.Values.{num, str, idList, headValues}
 use Rattle.apdu_reading.specs.declared.cursor.Cursor.{Cursor}
 use Rattle.apdu_reading.specs.declared.container.Head.{Head}
-use Rattle.apdu_reading.specs.Cursor.{cursor, stateOf, component, Reads}
-use Rattle.apdu_reading.specs.Rows.{row, nested, Opens}
+use Rattle.apdu.specs.Sound.{nested, partFits}
+use Rattle.apdu_reading.specs.Cursor.{cursor, stateOf, component, Reads, Inside}
+use Rattle.apdu.specs.RowCounters.{row}
+use Rattle.apdu_reading.specs.Rows.{Opens}
 use Rattle.apdu_reading.specs.Lists.{Leads}
 use Rattle.apdu_reading.proofs.Pieces.{sees, silent}
 use Rattle.apdu_reading.proofs.Components.{rest, rows-extended, kind-extended}
@@ -32,7 +35,7 @@ head k n start c = record { kind = k; n = n; start = start; cursor = c }
 
 -- what a string or a list of ids ensures
 abbrev Ensured : List ℕ → List Component → Cursor → Cursor → List Value → Type 0
-Ensured s is c r vs = Reads s is c r vs × (r .value < 128) × (r .room ≡ c .room)
+Ensured s is c r vs = Reads s is c r vs × (r .value < 128) × (r .room ≡ c .room) × Inside s true r
 
 pub one : (s : List ℕ) (i : Component) (b : Cursor) {d : Cursor} → d ≡ component s i b → (log : List Value) → runs (bits s) (i ∷ []) (stateOf b log) ≡ runs (bits s) (more s i b) (stateOf d (log ++ (sees s i b ∷ [])))
 one s i b z log = rw z (runs-one (bits s) i (stateOf b log) ∙ ap (λ (t : Step). runs (bits s) (t .more) (t .state)) (took s i b log))
@@ -96,6 +99,7 @@ module _ (s : List ℕ) (depth : ℕ) (c : Cursor) {k : Cursor} (x : k ≡ compo
         room = λ h. absurd (n h);
         small = (omega arith, omega arith);
         clean = λ h. absurd (n h);
+        parts = λ h. absurd (n h);
       }
 
   module _ (h : k .fault ≡ 0) where
@@ -130,9 +134,9 @@ module _ (s : List ℕ) (depth : ℕ) (c : Cursor) {k : Cursor} (x : k ≡ compo
 
     -- a container without rows
     plain : (K n start : ℕ) {is : List Component} {d : Cursor} {vs : List Value} → Reads s is k d vs → nested K n ≡ 0 → content depth (k .value) ≡ is → num (k .value) ∷ vs ≡ headValues s K n start
-        → d .room ≡ k .room → K < 128 → n < 128 → Opens s depth c (head K n start d)
+        → d .room ≡ k .room → K < 128 → n < 128 → (d .fault ≡ 0 → partFits (length s) K n start ≡ true) → Opens s depth c (head K n start d)
     unfolding brings numbersOf times
-    plain K n start {is} {d} {vs} r z a b q u v =
+    plain K n start {is} {d} {vs} r z a b q u v f =
         let whole : Reads s (container depth ∷ []) c d (headValues s K n start) =
         valued (λ g. ap (λ (v : Value). v ∷ vs) kind-saw ∙ b) (enter (container depth) c x (λ g. rw (kind-saw, a) r) (λ g. absurd (g h))) in
         record {
@@ -141,17 +145,20 @@ module _ (s : List ℕ) (depth : ℕ) (c : Cursor) {k : Cursor} (x : k ≡ compo
           room = λ g. rw z (omega (arith, kind-room));
           small = (u, v);
           clean = λ g. clean whole g;
+          parts = f;
         }
 
     pub opens-string : k .value ≡ 2 → {d : Cursor} → Ensured s (stringForm ∷ []) k d (str s (d .start) (d .value)) → Opens s depth c (head 2 (d .value) (d .start) d)
-    opens-string e {d} r = plain 2 (d .value) (d .start) (r .0) refl (unfold content in rw e) (unfold headValues in rw e) (r .2) (omega arith) (r .1)
+    opens-string e {d} r =
+        plain 2 (d .value) (d .start) (r .0) refl (unfold content in rw e) (unfold headValues in rw e) (r .2) (omega arith) (r .1) (λ g. unfold partFits in r .3 .so g)
 
     pub opens-ids : k .value ≡ 8 → {d : Cursor} → Ensured s (idCount ∷ []) k d (idList s (d .start) (d .value)) → Opens s depth c (head 8 (d .value) (d .start) d)
-    opens-ids e {d} r = plain 8 (d .value) (d .start) (r .0) refl (unfold content in rw e) (unfold headValues in rw e) (r .2) (omega arith) (r .1)
+    opens-ids e {d} r =
+        plain 8 (d .value) (d .start) (r .0) refl (unfold content in rw e) (unfold headValues in rw e) (r .2) (omega arith) (r .1) (λ g. unfold partFits in r .3 .so g)
 
     pub opens-integer : k .value ≡ 7 → {d : Cursor} → (d ≡ component s integer k) × (d .value < 128) → Opens s depth c (head 7 (d .value) 0 d)
     opens-integer e {d} y =
-        plain 7 (d .value) 0 (integer-reads s k (y .0)) refl (unfold content in rw e) (unfold headValues in rw e) (integer-room s k (y .0)) (omega arith) (y .1)
+        plain 7 (d .value) 0 (integer-reads s k (y .0)) refl (unfold content in rw e) (unfold headValues in rw e) (integer-room s k (y .0)) (omega arith) (y .1) (λ g. unfold partFits in refl)
 
     -- an attribute list
     module _ (e : k .value ≡ 9) {d : Cursor} (y : d ≡ component s (rowCount (suc depth)) k) (low : d .value < 128) where
@@ -173,4 +180,5 @@ module _ (s : List ℕ) (depth : ℕ) (c : Cursor) {k : Cursor} (x : k ≡ compo
             room = λ g. count-room s (suc depth) k y g ∙ kind-room;
             small = (omega arith, low);
             clean = λ g. read .clean;
+            parts = λ g. unfold partFits in refl;
           }

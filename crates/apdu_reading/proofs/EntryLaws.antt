@@ -1,6 +1,6 @@
 -- Application entries: an octet, what its bits say is there, and the rows of its parameter; and lists of them.
 -- Assumes nothing.
-use Prim.Native.Nat.{ℕ, _+_, _-_, _/_, _%_, _<_}
+use Prim.Native.Nat.{ℕ, _-_, _/_, _%_, _<_}
 use mathlib.Core.Path.{_≡_, refl, ap, sym, _∙_}
 use mathlib.Core.List.{List, [], _∷_, _++_, append-assoc, append-nil}
 use mathlib.Core.Bool.{Bool, true, false}
@@ -10,7 +10,7 @@ use lib.Seq.{length-take-le}
 use lib.Dec.{eqb}
 use borrow.Author.Tests.{eqb-true, eqb-false}
 use Rattle.refusals.specs.Check.{check, firstOf}
-use Rattle.refusals.proofs.Tests.{by-cases, first-none}
+use Rattle.refusals.proofs.Tests.{by-cases, and-true, first-none}
 use Rattle.bits.specs.Bits.{bits, readField}
 use Rattle.apdu_format.specs.Component.{Component, integer, entry, container}
 use Rattle.apdu_format.specs.Rules.{shape, brings, when, times, checksOf, announced}
@@ -19,12 +19,15 @@ use Rattle.apdu_format.proofs.Runs.{runs-append}
 use Rattle.apdu.specs.declared.lists.Row.{Row}
 use Rattle.apdu.specs.declared.lists.Entry.{Entry}
 use Rattle.apdu.specs.Values.{bitOf, num-if, if, headValues, rowValues, rowsValues, entryValues}
+use Rattle.apdu.specs.Sound.{nested, rowsSound, containerSound, entrySound}
+use Rattle.apdu.proofs.Laws.{sound-if}
+use Rattle.apdu.proofs.Dues.{two, due-two, total-two}
 use Rattle.apdu_reading.specs.declared.cursor.Cursor.{Cursor}
 use Rattle.apdu_reading.specs.declared.container.Head.{Head}
 use Rattle.apdu_reading.specs.declared.rows.Rows.{Rows}
 use Rattle.apdu_reading.specs.declared.applications.EntryHead.{EntryHead}
 use Rattle.apdu_reading.specs.Cursor.{stateOf, component, Reads}
-use Rattle.apdu_reading.specs.Rows.{row, nested}
+use Rattle.apdu.specs.RowCounters.{row, total}
 use Rattle.apdu_reading.specs.Lists.{between, Ready, Filled}
 use Rattle.apdu_reading.specs.Optional.{Maybe, HeadMaybe}
 use Rattle.apdu_reading.specs.Applications.{EntryOpens, Open, EntryWhole}
@@ -33,7 +36,8 @@ use Rattle.apdu_reading.proofs.Components.{entry-bits}
 use Rattle.apdu_reading.proofs.Chains.{more, state-log, valued, clean}
 use Rattle.apdu_reading.proofs.Strings.{fault-of, room-of}
 use Rattle.apdu_reading.proofs.Containers.{one}
-use Rattle.apdu_reading.proofs.Boxes.{and-then, found-nothing, two, due-two}
+use Rattle.apdu_reading.proofs.Fill.{filled-none}
+use Rattle.apdu_reading.proofs.Boxes.{and-then, found-nothing}
 
 -- ---- an entry up to its rows
 
@@ -122,6 +126,9 @@ module _ (s : List ℕ) (c : Cursor) {o : Cursor} (e : o ≡ component s entry c
               };
           room = λ g. let a = q .room g in let f = m .room in let r : o .room ≡ c .room = room-of s entry c (λ fs. unfold announced in refl) e in omega arith;
           clean = λ g. good s entry c (fault-of e (clean (m .reads) (q .clean g))) .clean;
+          parts = q .parts;
+          none = refl;
+          counts = d;
           eid = record { are = λ z. (m .absent z .0, tt) };
           parameter = record { are = λ z. let a = q .absent z in (a .0, (a .1, (a .2, (d ∙ rw (a .0), tt)))) };
         }
@@ -186,14 +193,27 @@ module _ (s : List ℕ) (r : Rows) (o : Open r) {h : EntryHead} (p : EntryOpens 
         let t : length (take (q .used) (q .rows)) ≡ q .used = length-take-le (q .used) (q .rows) (omega arith) in
         no-values s new (q .used - r .used) (none-due z g) (length-drop (r .used) (take (q .used) (q .rows)) ∙ rw t)
 
+    entry-sound : q .cursor .fault ≡ 0 → entrySound (length s) entryWith new ≡ true
+    unfolding entrySound containerSound
+    entry-sound g =
+        let t : nested (h .entry .kind) (h .entry .n) ≡ total (two (h .due)) = sym (total-two (h .due) ∙ p .counts) in
+        sound-if (h .entry .«has_parameter») (and-true (p .parts (clean (f .reads) g)) (ap (λ (k : ℕ). rowsSound (length s) k new) t ∙ f .sound g))
+
     pub entry-whole : EntryWhole s r (record { entry = entryWith; rows = q })
     entry-whole =
         record {
           reads = valued entry-values (and-then (p .leads) due-read);
           grown = record { free = record { sum = f .sum; rest = f .rest; long = f .long; few = f .few }; more = f .more; kept = f .kept };
           rows = let m = f .more in omega arith;
+          sound = entry-sound;
           tidy = λ g. (
             p .eid,
             record { are = λ z. let a = p .parameter .are z in (a .0, (a .1 .0, (a .1 .1 .0, (no-new z g, tt)))) },
           );
         }
+
+  -- an entry that announces no rows
+  pub entry-alone : h .due ≡ 0 → EntryWhole s r (record { entry = h .entry; rows = record { cursor = h .cursor; used = r .used; rows = r .rows } })
+  entry-alone z =
+      let e : r .used - r .used ≡ h .entry .rows = omega (arith, p .none) in
+      rw e at (entry-whole (filled-none s (two (h .due)) entry-ready (total-two (h .due) ∙ z)))

@@ -11,22 +11,25 @@ use lib.Seq.{take-suc-set, take-set-le, getD-set-other, drop-append-le, length-t
 use lib.Dec.{ltb, eqb}
 use borrow.Author.Tests.{eq-eqb, ne-eqb, le-ltb, ltb-true, ltb-false, eqb-true, eqb-false}
 use Rattle.refusals.specs.Check.{pick}
-use Rattle.refusals.proofs.Tests.{by-cases}
+use Rattle.refusals.proofs.Tests.{by-cases, and-true}
 use Rattle.bits.specs.Bits.{bits}
-use Rattle.apdu_format.specs.Rules.{times}
 use Rattle.apdu_format.specs.Reading.{Value, State, runs}
 use Rattle.apdu_format.proofs.Runs.{runs-none, runs-stopped}
 use Rattle.apdu.specs.declared.lists.Row.{Row}
 use Rattle.apdu.specs.Values.{rowValues, rowsValues, emptyRow}
 use Rattle.apdu.specs.Tidy.{RowsTidy}
+use Rattle.apdu.specs.Sound.{partsFit, closes, rowsSound}
+use Rattle.apdu.proofs.Laws.{rows-snoc, fit-snoc, closes-more}
+use Rattle.apdu.proofs.Dues.{due-none}
 use Rattle.apdu_reading.specs.declared.cursor.Cursor.{Cursor}
-use Rattle.apdu_reading.specs.declared.container.Due.{Due}
+use Rattle.apdu.specs.declared.due.Due.{Due}
 use Rattle.apdu_reading.specs.declared.container.RowRead.{RowRead}
 use Rattle.apdu_reading.specs.declared.rows.Rows.{Rows}
 use Rattle.apdu_reading.specs.Cursor.{stateOf}
-use Rattle.apdu_reading.specs.Rows.{row, total, dueList, Next}
+use Rattle.apdu.specs.RowCounters.{row, total, dueList}
+use Rattle.apdu_reading.specs.Rows.{Next}
 use Rattle.apdu_reading.specs.Lists.{between, Ready, Filled}
-use Rattle.apdu_reading.proofs.Chains.{state-log}
+use Rattle.apdu_reading.proofs.Chains.{state-log, itself, nothing}
 
 abbrev rowsAt : Cursor → ℕ → List Row → Rows
 rowsAt c used rows = record { cursor = c; used = used; rows = rows }
@@ -35,15 +38,12 @@ rowsAt c used rows = record { cursor = c; used = used; rows = rows }
 pub record Held (s : List ℕ) (c₀ : Cursor) (o₀ : Due) (k : ℕ) (rows₀ : List Row) (c : Cursor) (o : Due) (used : ℕ) (rows : List Row) : Type 0 where
   pub so : (log : List Value) → runs (bits s) (dueList o₀) (stateOf c₀ log) ≡ runs (bits s) (dueList o) (stateOf c (log ++ rowsValues s (between k used rows)))
   pub sum : c .fault ≡ 0 → total o + c .room + used ≡ 32
+  pub fit : partsFit (length s) (between k used rows) ≡ true
+  pub closing : c .fault ≡ 0 → (rest : List Row) → closes (total o₀) (between k used rows ++ rest) ≡ closes (total o) rest
   pub more : k ≤ used
   pub kept : take k rows ≡ take k rows₀
   pub rest : RowsTidy used rows
   pub long : length rows ≡ 32
-
-rows-snoc : (s : List ℕ) (rs : List Row) (r : Row) → rowsValues s (rs ++ (r ∷ [])) ≡ rowsValues s rs ++ rowValues s r
-unfolding rowsValues
-rows-snoc s [] r = append-nil (rowValues s r)
-rows-snoc s (q ∷ rs) r = ap (λ (x : List Value). rowValues s q ++ x) (rows-snoc s rs r) ∙ sym (append-assoc (rowValues s q) (rowsValues s rs) (rowValues s r))
 
 pub between-none : {A : Type 0} (k : ℕ) (rs : List A) → between k k rs ≡ []
 between-none zero rs = refl
@@ -55,11 +55,13 @@ between-snoc k n rs r h l =
     rw (add-one, take-suc-set rs n r l) (drop-append-le k (take n rs) (r ∷ []) (let m : length (take n rs) ≡ n = length-take-le n rs (omega arith) in omega arith))
 
 pub held-none : (s : List ℕ) (o : Due) (r : Rows) → Ready o r → Held s (r .cursor) o (r .used) (r .rows) (r .cursor) o (r .used) (r .rows)
-unfolding rowsValues
+unfolding rowsValues partsFit
 held-none s o r p =
     record {
       so = λ log. rw (between-none (r .used) (r .rows), append-nil);
       sum = p .sum;
+      fit = rw (between-none (r .used) (r .rows));
+      closing = λ z rest. rw (between-none (r .used) (r .rows));
       more = omega arith;
       kept = refl;
       rest = p .rest;
@@ -78,26 +80,26 @@ wanted c used h = by-cases (eqb (c .fault) 0) (λ p. (eqb-true _ _ p, ltb-true _
 
 -- nothing is due
 none-due : (s : List ℕ) (o : Due) → total o ≡ 0 → (d : State) → runs (bits s) (dueList o) d ≡ d
-unfolding dueList times
-none-due s o h d =
-    let a : o .d1 ≡ 0 = omega arith in
-    let b : o .d2 ≡ 0 = omega arith in
-    let e : o .d3 ≡ 0 = omega arith in
-    let f : o .d4 ≡ 0 = omega arith in
-    let g : o .d5 ≡ 0 = omega arith in
-    rw (a, b, e, f, g) (runs-none (bits s) d)
+none-due s o h d = rw (due-none o h) (runs-none (bits s) d)
 
 module _ (s : List ℕ) (c₀ : Cursor) (o₀ : Due) (k : ℕ) (rows₀ : List Row) {c : Cursor} {o : Due} {used : ℕ} {rows : List Row} (p : Held s c₀ o₀ k rows₀ c o used rows) where
-  more-rows : (r : RowRead) → Next s c o r → c .fault ≡ 0 → used < 32 → r .cursor .fault ≡ 0 → Held s c₀ o₀ k rows₀ (r .cursor) (r .due) (used + 1) (set rows used (r .row))
-  more-rows r q z l h =
+  more-rows : (r : RowRead) → Next s c o r → c .fault ≡ 0 → 0 < total o → used < 32 → r .cursor .fault ≡ 0 → Held s c₀ o₀ k rows₀ (r .cursor) (r .due) (used + 1) (set rows used (r .row))
+  more-rows r q z some l h =
       let long = p .long in
+      let b : between k (used + 1) (set rows used (r .row)) ≡ between k used rows ++ (r .row ∷ []) = between-snoc k used rows (r .row) (p .more) (omega arith) in
       let e : rowsValues s (between k (used + 1) (set rows used (r .row))) ≡ rowsValues s (between k used rows) ++ rowValues s (r .row) =
-      ap (rowsValues s) (between-snoc k used rows (r .row) (p .more) (omega arith)) ∙ rows-snoc s (between k used rows) (r .row) in
+      ap (rowsValues s) b ∙ rows-snoc s (between k used rows) (r .row) in
       record {
         so = λ log.
             p .so log ∙ q .so (log ++ rowsValues s (between k used rows))
             ∙ ap (λ (l : List Value). runs (bits s) (dueList (r .due)) (stateOf (r .cursor) l)) (append-assoc log (rowsValues s (between k used rows)) (rowValues s (r .row)) ∙ ap (λ (l : List Value). log ++ l) (sym e));
-        sum = λ w. let a = p .sum z in let b = q .sums h in omega arith;
+        sum = λ w. let a = p .sum z in let g = q .sums h in omega arith;
+        fit = ap (partsFit (length s)) b ∙ fit-snoc (length s) (between k used rows) (r .row) ∙ and-true (p .fit) (q .parts h);
+        closing = λ w rest.
+            ap (λ (l : List Row). closes (total o₀) (l ++ rest)) b
+            ∙ ap (closes (total o₀)) (append-assoc (between k used rows) (r .row ∷ []) rest)
+            ∙ p .closing z (r .row ∷ rest)
+            ∙ closes-more (total o) (r .row) rest (total (r .due)) (λ y. omega arith) (q .counts);
         more = let a = p .more in omega arith;
         kept = take-set-le k rows used (r .row) (p .more) ∙ p .kept;
         rest = record { rest = λ j w. getD-set-other rows used j (r .row) emptyRow (λ y. omega arith) ∙ p .rest .rest j (omega arith) };
@@ -109,6 +111,8 @@ module _ (s : List ℕ) (c₀ : Cursor) (o₀ : Due) (k : ℕ) (rows₀ : List R
       record {
         so = λ log. p .so log ∙ q .so (log ++ rowsValues s (between k used rows)) ∙ ap (runs (bits s) (dueList (r .due))) (state-log (r .cursor) _ _ (λ z. absurd (h z)));
         sum = λ w. absurd (h w);
+        fit = p .fit;
+        closing = λ w. absurd (h w);
         more = p .more;
         kept = p .kept;
         rest = p .rest;
@@ -133,7 +137,7 @@ module _ (s : List ℕ) (c₀ : Cursor) (o₀ : Due) (k : ℕ) (rows₀ : List R
     few e = let q = wanted c used (sym w ∙ e) in let b = q .1 in omega arith
 
     pub again : t ≡ true → (r : RowRead) → Next s c o r → r .cursor .fault ≡ 0 → Held s c₀ o₀ k rows₀ (r .cursor) (r .due) (used + 1) (set rows used (r .row))
-    again e r q h = more-rows r q (wanted c used (sym w ∙ e) .0) (few e) h
+    again e r q h = more-rows r q (wanted c used (sym w ∙ e) .0) (some-due e) (few e) h
 
     pub less : t ≡ true → (f : ℕ) → f ≡ 0 → pick (eqb f 0) (33 - (used + 1)) 0 < pick (eqb (c .fault) 0) (33 - used) 0
     less e f h = let k = few e in rw (eq-eqb _ _ (wanted c used (sym w ∙ e) .0), eq-eqb _ _ h) (omega arith)
@@ -141,12 +145,24 @@ module _ (s : List ℕ) (c₀ : Cursor) (o₀ : Due) (k : ℕ) (rows₀ : List R
     pub less-stop : t ≡ true → (f : ℕ) → (f ≡ 0 → ⊥) → pick (eqb f 0) (33 - used) 0 < pick (eqb (c .fault) 0) (33 - used) 0
     less-stop e f h = let k = few e in rw (eq-eqb _ _ (wanted c used (sym w ∙ e) .0), ne-eqb _ _ h) (omega arith)
 
+    full : Wants c used ≡ false → c .fault ≡ 0 → 32 - c .room ≤ used
+    full z f = ltb-false _ _ (rw (eq-eqb _ _ f) at z)
+
+    all-sound : Wants c used ≡ false → c .fault ≡ 0 → rowsSound (length s) (total o₀) (between k used rows) ≡ true
+    unfolding rowsSound closes
+    all-sound z f =
+        let a = p .sum f in
+        let b = full z f in
+        let n : total o ≡ 0 = omega arith in
+        and-true (p .fit) (ap (closes (total o₀)) (sym (append-nil (between k used rows))) ∙ p .closing f [] ∙ ap (λ (i : ℕ). closes i []) n)
+
     pub done : used ≤ 32 → t ≡ false → Filled s o₀ (rowsAt c₀ k rows₀) (rowsAt c used rows)
     done low e =
         let z = sym w ∙ e in
         record {
           reads = record { so = λ log. p .so log ∙ ended z (log ++ rowsValues s (between k used rows)) };
-          sum = λ f. let a = p .sum f in let b : 32 - c .room ≤ used = ltb-false _ _ (rw (eq-eqb _ _ f) at z) in omega arith;
+          sum = λ f. let a = p .sum f in let b = full z f in omega arith;
+          sound = all-sound z;
           more = p .more;
           kept = p .kept;
           rest = p .rest;
@@ -157,3 +173,18 @@ module _ (s : List ℕ) (c₀ : Cursor) (o₀ : Due) (k : ℕ) (rows₀ : List R
 -- where more rows may be announced than there is room, none is wanted
 pub none-wanted : (c : Cursor) (used : ℕ) → c .fault ≡ 0 → 32 ≤ c .room → false ≡ Wants c used
 none-wanted c used h k = let l : ltb used (32 - c .room) ≡ false = le-ltb used (32 - c .room) (omega arith) in rw (eq-eqb _ _ h, l)
+
+-- nothing is due
+pub filled-none : (s : List ℕ) (o : Due) {r : Rows} → Ready o r → total o ≡ 0 → Filled s o r r
+unfolding rowsValues rowsSound partsFit closes
+filled-none s o {r} p z =
+    record {
+      reads = rw (due-none o z, between-none (r .used) (r .rows)) (nothing s (itself (r .cursor)));
+      sum = λ f. let a = p .sum f in omega arith;
+      more = omega arith;
+      sound = λ f. rw (z, between-none (r .used) (r .rows));
+      kept = refl;
+      rest = p .rest;
+      long = p .long;
+      few = p .few;
+    }

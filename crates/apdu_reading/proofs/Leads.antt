@@ -1,6 +1,6 @@
 -- The leading part of a message: its bits, and then what they say is there.
 -- Assumes nothing.
-use Prim.Native.Nat.{ℕ, _+_, _-_, _≤_}
+use Prim.Native.Nat.{ℕ, _≤_}
 use mathlib.Core.Path.{_≡_, refl, _∙_}
 use mathlib.Core.List.{List, [], _∷_, _++_}
 use mathlib.Core.Bool.{Bool, true, false}
@@ -9,7 +9,7 @@ use lib.Seq.{drop-drop}
 use lib.Dec.{leb, eqb}
 use borrow.Author.Tests.{le-leb, eqb-true, eqb-false}
 use Rattle.refusals.proofs.Tests.{by-cases}
-use Rattle.bits.specs.Bits.{bits, number, field, readField}
+use Rattle.bits.specs.Bits.{bits, field, readField}
 use Rattle.bits.proofs.Laws.{field-lt}
 use Rattle.apdu_format.specs.Component.{Component, lead}
 use Rattle.apdu_format.specs.Table.{layoutOf}

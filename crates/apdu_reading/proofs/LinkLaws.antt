@@ -1,16 +1,16 @@
 -- BST and VST, from the readings of their components.
 -- Assumes nothing.
-use Prim.Native.Nat.{ℕ, zero, suc, _+_, _-_, _*_, _/_, _%_, _≤_, _<_}
+use Prim.Native.Nat.{ℕ, zero, suc, _+_, _*_, _/_, _%_, _≤_, _<_}
 use mathlib.Core.Path.{_≡_, refl, ap, sym, _∙_}
 use mathlib.Core.List.{List, [], _∷_, _++_}
 use mathlib.Core.Bool.{Bool, true, false}
 use native.Mathlib.Nat.{add-zero, zero-add}
 use native.Mathlib.Omega.{arith}
-use lib.ListN.{getD, take, drop, replicate, take-append-drop}
+use lib.ListN.{length, getD, take, drop, replicate, take-append-drop}
 use lib.Seq.{drop-drop, take-take}
 use lib.Dec.{eqb}
 use borrow.Author.Tests.{eqb-true, eqb-false}
-use Rattle.refusals.proofs.Tests.{by-cases}
+use Rattle.refusals.proofs.Tests.{by-cases, and-true}
 use Rattle.bits.specs.Bits.{bits, field, readField}
 use Rattle.bits.proofs.Laws.{field-lt, field-add}
 use Rattle.apdu_format.specs.Component.{lead, integer, fixed, entry, idCount, class}
@@ -20,11 +20,13 @@ use Rattle.apdu_format.specs.Reading.{Value, fields, numbersOf, sum, need, fiel
 use Rattle.apdu.specs.declared.lists.Row.{Row}
 use Rattle.apdu.specs.declared.lists.Entry.{Entry}
 use Rattle.apdu.specs.Values.{bitOf, num, if, idList, entriesValues, rowsOf, listValues, bstValues, vstValues, emptyRow, emptyEntry}
+use Rattle.apdu.specs.Sound.{entriesSound, bstSound, vstSound}
+use Rattle.apdu.proofs.Laws.{sound-if, own-sound, rows-of-append}
 use Rattle.apdu_reading.specs.declared.cursor.Cursor.{Cursor}
 use Rattle.apdu_reading.specs.declared.applications.Applications.{Applications}
 use Rattle.apdu_reading.specs.declared.link.AppList.{AppList}
 use Rattle.apdu_reading.specs.declared.link.Configuration.{Configuration}
-use Rattle.apdu_reading.specs.Cursor.{component, pieceOf, Reads}
+use Rattle.apdu_reading.specs.Cursor.{component, pieceOf, Reads, Inside}
 use Rattle.apdu_reading.specs.Lists.{between}
 use Rattle.apdu_reading.specs.Applications.{StoreReady, Stored, CountMaybe, ListMaybe, ConfigurationRead}
 use Rattle.apdu_reading.specs.Messages.{Begun, BstRead, VstRead}
@@ -58,6 +60,7 @@ module _ (s : List ℕ) (p : Bool) (base : ℕ) (a : Applications) (o : StoreRea
         reads =
             valued (λ g. if-join p (num (d .value) ∷ []) vs (λ z. found-nothing (rw (ap (λ (n : ℕ). times n (entry ∷ [])) (m .absent z)) at (t .reads)) g)) (and-then (m .leads) (t .reads));
         grown = record { free = t .grown .free; more = t .grown .more; kept = t .grown .kept };
+        sound = t .sound;
         ready = t .ready;
         rows = t .rows;
         kept = t .kept;
@@ -172,11 +175,6 @@ take-between zero n l = rw (zero-add n)
 take-between (suc i) n [] = ap (drop (suc i)) (take-none (suc i + n)) ∙ drop-none (suc i) ∙ sym (ap (take n) (drop-none (suc i)) ∙ take-none n)
 take-between (suc i) n (a ∷ l) = let e : suc i + n ≡ suc (i + n) = omega arith in rw e (take-between i n l)
 
-rows-of-append : (es fs : List Entry) → rowsOf (es ++ fs) ≡ rowsOf es + rowsOf fs
-unfolding rowsOf
-rows-of-append [] fs = omega arith
-rows-of-append (e ∷ es) fs = let h = rows-of-append es fs in omega arith
-
 module _ (s : List ℕ) (c : Cursor) {rows : List Row} {es : List Entry} {f : AppList} (a : ListMaybe s true 0 (apps c rows es) f) where
   first-count : rowsOf (take (f .count) (f .list .entries)) ≡ f .list .rows .used
   first-count = let e : 0 + f .count ≡ f .count = omega arith in let r = rw e at (a .rows) in omega arith
@@ -186,7 +184,21 @@ module _ (s : List ℕ) (c : Cursor) {rows : List Row} {es : List Entry} {f : Ap
       → num (f .count) ∷ entriesValues s (between 0 (0 + f .count) (f .list .entries)) (between 0 (f .list .rows .used) (f .list .rows .rows)) ≡ listValues s (f .count) (take (f .count) fs) rs
   first-values rs fs e g = rw (zero-add (f .count), e, first-count, g)
 
+  pub first-sound : (rs : List Row) (fs : List Entry) → take (f .count) fs ≡ take (f .count) (f .list .entries) → take (f .list .rows .used) rs ≡ take (f .list .rows .used) (f .list .rows .rows)
+      → f .list .rows .cursor .fault ≡ 0 → entriesSound (length s) (take (f .count) fs) (take (rowsOf (take (f .count) fs)) rs) ≡ true
+  first-sound rs fs e g h = rw (e, first-count, g) (rw (zero-add (f .count)) at (a .sound h))
+
   module _ (p : Bool) {t : AppList} (b : ListMaybe s p (f .count) (f .list) t) where
+    pub second-sound : t .list .rows .cursor .fault ≡ 0
+        → entriesSound (length s) (take (t .count) (drop (f .count) (t .list .entries))) (drop (rowsOf (take (f .count) (t .list .entries))) (t .list .rows .rows)) ≡ true
+    second-sound h =
+        let e : take (f .count) (t .list .entries) ≡ take (f .count) (f .list .entries) = b .kept in
+        let own = take (t .count) (drop (f .count) (t .list .entries)) in
+        let u : f .list .rows .used + rowsOf own ≡ t .list .rows .used = rw (take-between (f .count) (t .count) (t .list .entries)) at (b .rows) in
+        own-sound (length s) own (drop (rowsOf (take (f .count) (t .list .entries))) (t .list .rows .rows))
+        ∙ rw (e, first-count, ← take-between (f .list .rows .used) (rowsOf own) (t .list .rows .rows), u)
+        (rw (take-between (f .count) (t .count) (t .list .entries)) at (b .sound h))
+
     pub second-values : num (t .count) ∷ entriesValues s (between (f .count) (f .count + t .count) (t .list .entries)) (between (f .list .rows .used) (t .list .rows .used) (t .list .rows .rows))
         ≡ listValues s (t .count) (take (t .count) (drop (f .count) (t .list .entries))) (drop (rowsOf (take (f .count) (t .list .entries))) (t .list .rows .rows))
     second-values =
@@ -227,7 +239,7 @@ module _ (s : List ℕ) (c : Cursor) (b : Begun c) where
 
     module _ {x : Bool} {y z : ℕ} (fx : bitOf x ≡ field s 4 1) (fy : y ≡ readField s 5 16) (fz : z ≡ readField s 21 27) {rows : List Row} {es : List Entry}
         {f t : AppList} (p : ListMaybe s true 0 (apps profile rows es) f) (q : ListMaybe s x (f .count) (f .list) t) {ids : Cursor}
-        (r : Reads s (idCount ∷ []) (t .list .rows .cursor) ids (idList s (ids .start) (ids .value)) × (ids .value < 128) × (ids .room ≡ t .list .rows .cursor .room)) where
+        (r : Reads s (idCount ∷ []) (t .list .rows .cursor) ids (idList s (ids .start) (ids .value)) × (ids .value < 128) × (ids .room ≡ t .list .rows .cursor .room) × Inside s true ids) where
       if-as : (v : Bool) (vs ws : List Value) → vs ≡ ws → if v vs ≡ if v ws
       if-as v vs ws e = ap (if v) e
 
@@ -248,7 +260,7 @@ module _ (s : List ℕ) (c : Cursor) (b : Begun c) where
                 };
             list = t .list;
           })
-      unfolding layoutOf present bstValues
+      unfolding layoutOf present bstValues bstSound
       bst-is =
           record {
             reads =
@@ -258,6 +270,10 @@ module _ (s : List ℕ) (c : Cursor) (b : Begun c) where
                 (then (integer-reads s time (i .0))
                 (then (valued (λ g. first-values s profile p (t .list .rows .rows) (t .list .entries) (q .kept) (q .grown .kept)) (p .reads))
                 (then (valued (λ g. if-as x _ _ (second-values s profile p x q)) (q .reads)) (then (r .0) (nothing s (itself ids))))))));
+            sound = λ g.
+                let h = clean (r .0) g in
+                and-true (first-sound s profile p (t .list .rows .rows) (t .list .entries) (q .kept) (q .grown .kept) (clean (q .reads) h))
+                (and-true (sound-if x (second-sound s profile p x q h)) (r .3 .so g));
             tidy = λ g. (
               record { are = λ v. (q .absent v, tt) },
               record { each = q .ready .each (clean (r .0) g); entries = q .ready .rest; rows = rw (both-count s profile p x q) (q .ready .free .rest) },
@@ -278,13 +294,16 @@ module _ (s : List ℕ) (c : Cursor) (b : Begun c) where
                 { fill = x; profile = profile .value; applications = f .count; class = d .class; maker = d .maker; «has_status» = d .«has_status»; status = d .status };
             list = f .list;
           })
-      unfolding layoutOf present vstValues
+      unfolding layoutOf present vstValues vstSound
       vst-is =
           record {
             reads =
                 lead-in s c b 9 (x ∷ []) (vst-lead k) (vst-saw x (narrow s 4 4 (omega arith) fx))
                 (then (integer-reads s l (i .0))
                 (then (valued (λ g. first-values s profile p (f .list .rows .rows) (f .list .entries) refl refl) (p .reads)) (then (q .reads) (nothing s (itself (d .cursor))))));
+            sound = λ g.
+                own-sound (length s) (take (f .count) (f .list .entries)) (f .list .rows .rows)
+                ∙ first-sound s profile p (f .list .rows .rows) (f .list .entries) refl refl (clean (q .reads) g);
             tidy = λ g. (
               q .absent,
               record { each = p .ready .each (clean (q .reads) g); entries = rw (zero-add (f .count)) at (p .ready .rest); rows = rw (first-count s profile p) (p .ready .free .rest) },

@@ -10,7 +10,7 @@ use lib.Dec.{ltb, eqb}
 use borrow.Author.Tests.{eqb-true, eqb-false, ltb-false}
 use Rattle.refusals.specs.Check.{Check, check, firstOf}
 use Rattle.refusals.proofs.Tests.{by-cases}
-use Rattle.bits.specs.Bits.{number, readField}
+use Rattle.bits.specs.Bits.{readField}
 use Rattle.apdu_format.specs.Limits.{mostCounted, deepest}
 use Rattle.apdu_format.specs.Component.{Component, integer, idCount, container}
 use Rattle.apdu_format.specs.Rules.{shape, begins, knownKind, checksOf, announced}

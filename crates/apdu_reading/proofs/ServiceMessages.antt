@@ -1,20 +1,23 @@
 -- Each service message, from the readings of its components.
 -- Assumes nothing.
-use Prim.Native.Nat.{ℕ, _-_, _<_}
+use Prim.Native.Nat.{ℕ, _<_}
 use mathlib.Core.Path.{_≡_, refl, _∙_}
 use mathlib.Core.List.{List, [], _∷_}
 use mathlib.Core.Bool.{Bool, true, false}
 use native.Mathlib.Omega.{arith}
+use Rattle.refusals.proofs.Tests.{and-true}
 use Rattle.bits.specs.Bits.{field, readField}
 use Rattle.apdu_format.specs.Component.{integer, stringForm, idCount}
 use Rattle.apdu_format.specs.Table.{layoutOf}
 use Rattle.apdu_format.specs.Rules.{present}
 use Rattle.apdu.specs.Values.{bitOf, num-if, if, str, idList, requestValues, actionResponseValues, responseValues, setRequestValues, getRequestValues, getResponseValues}
 use Rattle.apdu.specs.Tidy.{Absent}
+use Rattle.apdu.specs.Sound.{requestSound, actionResponseSound, setRequestSound, getRequestSound, getResponseSound}
+use Rattle.apdu.proofs.Laws.{sound-if}
 use Rattle.apdu_reading.specs.declared.cursor.Cursor.{Cursor}
 use Rattle.apdu_reading.specs.declared.lists.Container.{Container}
 use Rattle.apdu_reading.specs.declared.lists.Attributes.{Attributes}
-use Rattle.apdu_reading.specs.Cursor.{component, pieceOf}
+use Rattle.apdu_reading.specs.Cursor.{component, pieceOf, Inside}
 use Rattle.apdu_reading.specs.Optional.{Maybe}
 use Rattle.apdu_reading.specs.Boxed.{Boxed, Listed}
 use Rattle.apdu_reading.specs.Messages.{Begun, RequestRead, ActionResponseRead, ResponseRead, SetRequestRead, GetRequestRead, GetResponseRead}
@@ -29,7 +32,7 @@ abbrev MaybeInteger : List ℕ → Bool → Cursor → Cursor → Type 0
 MaybeInteger s p c r = Maybe s p (integer ∷ []) c r (num-if p (r .value))
 
 abbrev MaybeString : List ℕ → Bool → Cursor → Cursor → Type 0
-MaybeString s p c r = Maybe s p (stringForm ∷ []) c r (if p (str s (r .start) (r .value)))
+MaybeString s p c r = Maybe s p (stringForm ∷ []) c r (if p (str s (r .start) (r .value))) × Inside s p r
 
 absent-box : {s : List ℕ} {p : Bool} {c : Cursor} {r : Container} → Boxed s p c r → r .rows .cursor .fault ≡ 0 → Absent p (r .kind ∷ r .n ∷ r .start ∷ r .rows .used ∷ [])
 absent-box b h = record { are = λ z. (b .absent z .0, (b .absent z .1, (b .absent z .2, (b .kept .none z h, tt)))) }
@@ -71,12 +74,13 @@ module _ (s : List ℕ) (c : Cursor) (b : Begun c) {p : Cursor} (l : p ≡ piece
                 };
             rows = held .rows;
           })
-      unfolding layoutOf present actionResponseValues
+      unfolding layoutOf present actionResponseValues actionResponseSound
       action-response-is =
           record {
             reads =
                 lead-in s c b 1 (bitOf x ∷ bitOf y ∷ bitOf z ∷ w ∷ []) (lead-four s c b 1 refl l) (saw-four s c b 1 (bitOf x) (bitOf y) (bitOf z) w refl fx fy fz (narrow s 7 1 (omega arith) fw))
                 (rw (set-bit x, set-bit y, set-bit z) (then (integer-reads s p (a .0)) (then (d .reads) (then (g .reads) (then (e .reads) (nothing s (itself ret)))))));
+            sound = λ h. sound-if y (g .sound (clean (e .reads) h));
             tidy = λ h. ((absent-value d, absent-box g (clean (e .reads) h), absent-value e), g .kept .rest);
           }
 
@@ -89,17 +93,18 @@ module _ (s : List ℕ) (c : Cursor) (b : Begun c) {p : Cursor} (l : p ≡ piece
                 { fill = w; eid = eid .value; «has_iid» = x; iid = iid .value; «has_attributes» = y; count = held .count; rows = held .rows .used; «has_ret» = z; ret = ret .value };
             rows = held .rows;
           })
-      unfolding layoutOf present getResponseValues
+      unfolding layoutOf present getResponseValues getResponseSound
       get-response-is =
           record {
             reads =
                 lead-in s c b 7 (bitOf x ∷ bitOf y ∷ bitOf z ∷ w ∷ []) (lead-four s c b 7 refl l) (saw-four s c b 7 (bitOf x) (bitOf y) (bitOf z) w refl fx fy fz (narrow s 7 1 (omega arith) fw))
                 (rw (set-bit x, set-bit y, set-bit z) (then (integer-reads s p (a .0)) (then (d .reads) (then (g .reads) (then (e .reads) (nothing s (itself ret)))))));
+            sound = λ h. sound-if y (g .sound (clean (e .reads) h));
             tidy = λ h. ((absent-value d, absent-list g (clean (e .reads) h), absent-value e), g .kept .rest);
           }
 
     module _ {eid cred iid ids : Cursor} (a : Integer s p eid) (d : MaybeString s x eid cred) (g : MaybeInteger s y cred iid)
-        (e : Maybe s z (idCount ∷ []) iid ids (if z (idList s (ids .start) (ids .value)))) where
+        (e : Maybe s z (idCount ∷ []) iid ids (if z (idList s (ids .start) (ids .value))) × Inside s z ids) where
       pub get-request-is : GetRequestRead s c
           (record {
             cursor = ids;
@@ -117,13 +122,14 @@ module _ (s : List ℕ) (c : Cursor) (b : Begun c) {p : Cursor} (l : p ≡ piece
                   count = ids .value;
                 };
           })
-      unfolding layoutOf present getRequestValues
+      unfolding layoutOf present getRequestValues getRequestSound
       get-request-is =
           record {
             reads =
                 lead-in s c b 6 (bitOf x ∷ bitOf y ∷ bitOf z ∷ w ∷ []) (lead-four s c b 6 refl l) (saw-four s c b 6 (bitOf x) (bitOf y) (bitOf z) w refl fx fy fz (narrow s 7 1 (omega arith) fw))
-                (rw (set-bit x, set-bit y, set-bit z) (then (integer-reads s p (a .0)) (then (d .reads) (then (g .reads) (then (e .reads) (nothing s (itself ids)))))));
-            tidy = λ h. (absent-part d, absent-value g, absent-part e);
+                (rw (set-bit x, set-bit y, set-bit z) (then (integer-reads s p (a .0)) (then (d .0 .reads) (then (g .reads) (then (e .0 .reads) (nothing s (itself ids)))))));
+            sound = λ h. and-true (d .1 .so (clean (g .reads) (clean (e .0 .reads) h))) (e .1 .so h);
+            tidy = λ h. (absent-part (d .0), absent-value g, absent-part (e .0));
           }
 
   module _ {x y : Bool} {z : ℕ} {w : Bool} (fx : bitOf x ≡ field s 4 1) (fy : bitOf y ≡ field s 5 1) (fz : z ≡ readField s 6 1) (fw : bitOf w ≡ field s 7 1)
@@ -146,13 +152,14 @@ module _ (s : List ℕ) (c : Cursor) (b : Begun c) {p : Cursor} (l : p ≡ piece
               };
           rows = held .rows;
         })
-    unfolding layoutOf present setRequestValues
+    unfolding layoutOf present setRequestValues setRequestSound
     set-request-is =
         record {
           reads =
               lead-in s c b 4 (bitOf x ∷ bitOf y ∷ z ∷ bitOf w ∷ []) (lead-four s c b 4 refl l) (saw-four s c b 4 (bitOf x) (bitOf y) z (bitOf w) refl fx fy (narrow s 6 1 (omega arith) fz) fw)
-              (rw (set-bit x, set-bit y) (then (integer-reads s p (a .0)) (then (d .reads) (then (g .reads) (then (e .reads) (nothing s (itself iid)))))));
-          tidy = λ h. ((absent-part d, absent-value e), g .kept .rest);
+              (rw (set-bit x, set-bit y) (then (integer-reads s p (a .0)) (then (d .0 .reads) (then (g .reads) (then (e .reads) (nothing s (itself iid)))))));
+          sound = λ h. let w = clean (e .reads) h in and-true (d .1 .so (clean (g .reads) w)) (g .sound w);
+          tidy = λ h. ((absent-part (d .0), absent-value e), g .kept .rest);
         }
 
   module _ {x y z w : Bool} (fx : bitOf x ≡ field s 4 1) (fy : bitOf y ≡ field s 5 1) (fz : bitOf z ≡ field s 6 1) (fw : bitOf w ≡ field s 7 1)
@@ -179,14 +186,15 @@ module _ (s : List ℕ) (c : Cursor) (b : Begun c) {p : Cursor} (l : p ≡ piece
               };
           rows = held .rows;
         })
-    unfolding layoutOf present requestValues
+    unfolding layoutOf present requestValues requestSound
     request-is =
         record {
           reads =
               lead-in s c b 0 (bitOf x ∷ bitOf y ∷ bitOf z ∷ bitOf w ∷ []) (lead-four s c b 0 refl l) (saw-four s c b 0 (bitOf x) (bitOf y) (bitOf z) (bitOf w) refl fx fy fz fw)
               (rw (set-bit x, set-bit y, set-bit z)
-              (then (integer-reads s p (a .0)) (then (integer-reads s eid (i .0)) (then (d .reads) (then (g .reads) (then (e .reads) (nothing s (itself iid))))))));
-          tidy = λ h. ((absent-part d, absent-box g (clean (e .reads) h), absent-value e), g .kept .rest);
+              (then (integer-reads s p (a .0)) (then (integer-reads s eid (i .0)) (then (d .0 .reads) (then (g .reads) (then (e .reads) (nothing s (itself iid))))))));
+          sound = λ h. let w = clean (e .reads) h in and-true (d .1 .so (clean (g .reads) w)) (sound-if y (g .sound w));
+          tidy = λ h. ((absent-part (d .0), absent-box g (clean (e .reads) h), absent-value e), g .kept .rest);
         }
 
   -- the room is whole where a list begins

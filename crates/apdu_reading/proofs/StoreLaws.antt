@@ -2,24 +2,25 @@
 -- Assumes nothing.
 use Prim.Native.Nat.{ℕ, _+_, _-_, _≤_, _<_}
 use mathlib.Core.Path.{_≡_, refl, ap, sym, _∙_}
-use mathlib.Core.List.{List, [], _∷_, _++_, append-assoc, append-nil}
+use mathlib.Core.List.{List, [], _∷_, _++_, append-nil}
 use mathlib.Core.Bool.{Bool, true, false}
 use native.Mathlib.Numerals.{add-one}
 use native.Mathlib.Nat.{add-zero}
 use native.Mathlib.Omega.{arith}
 use lib.ListN.{length, getD, take, drop, set, length-set, length-drop, take-append-drop}
-use lib.Seq.{take-append-le, drop-append-le, take-all, take-take, length-take-le, take-set-le, getD-set-same, getD-set-other}
+use lib.Seq.{drop-append-le, take-take, length-take-le, take-set-le, getD-set-same, getD-set-other}
 use lib.Dec.{eqb}
 use borrow.Author.Tests.{eqb-true, eqb-false}
 use Rattle.refusals.proofs.Tests.{by-cases}
 use Rattle.bits.specs.Bits.{bits}
 use Rattle.apdu_format.specs.Component.{Component, entry, entryCount}
 use Rattle.apdu_format.specs.Rules.{brings, times, announced}
-use Rattle.apdu_format.specs.Reading.{Value, numbersOf, runs}
-use Rattle.apdu.specs.declared.lists.Row.{Row}
+use Rattle.apdu_format.specs.Reading.{numbersOf, runs}
 use Rattle.apdu.specs.declared.lists.Entry.{Entry}
 use Rattle.apdu.specs.Values.{num, entryValues, entriesValues, rowsOf, emptyEntry}
 use Rattle.apdu.specs.Tidy.{entryTidy}
+use Rattle.apdu.specs.Sound.{entriesSound}
+use Rattle.apdu.proofs.Laws.{rows-of-snoc, entries-more, sound-more}
 use Rattle.apdu_reading.specs.declared.cursor.Cursor.{Cursor}
 use Rattle.apdu_reading.specs.declared.rows.Rows.{Rows}
 use Rattle.apdu_reading.specs.declared.applications.EntryRead.{EntryRead}
@@ -37,24 +38,6 @@ use Rattle.apdu_reading.proofs.Fill.{between-none, between-snoc}
 
 -- ---- lists of entries
 
--- one entry more, with its rows behind the others
-entries-snoc : (s : List ℕ) (es : List Entry) (e : Entry) (rs new : List Row) → rowsOf es ≡ length rs → e .rows ≡ length new
-    → entriesValues s (es ++ (e ∷ [])) (rs ++ new) ≡ entriesValues s es rs ++ entryValues s e new
-unfolding entriesValues rowsOf
-entries-snoc s [] e [] new h k = rw (take-all (e .rows) new (omega arith)) (append-nil (entryValues s e new))
-entries-snoc s [] e (r ∷ rs) new h k = absurd (omega arith)
-entries-snoc s (x ∷ es) e rs new h k =
-    let l : x .rows ≤ length rs = omega arith in
-    let n : rowsOf es ≡ length (drop (x .rows) rs) = omega (arith, length-drop (x .rows) rs) in
-    rw (take-append-le (x .rows) rs new l, drop-append-le (x .rows) rs new l)
-    (ap (λ (w : List Value). entryValues s x (take (x .rows) rs) ++ w) (entries-snoc s es e (drop (x .rows) rs) new n k)
-    ∙ sym (append-assoc (entryValues s x (take (x .rows) rs)) (entriesValues s es (drop (x .rows) rs)) (entryValues s e new)))
-
-rows-of-snoc : (es : List Entry) (e : Entry) → rowsOf (es ++ (e ∷ [])) ≡ rowsOf es + e .rows
-unfolding rowsOf
-rows-of-snoc [] e = omega arith
-rows-of-snoc (x ∷ es) e = let h = rows-of-snoc es e in omega arith
-
 -- what was stored before, and then what is new
 between-join : {A : Type 0} (i j k : ℕ) (l m : List A) → i ≤ j → j ≤ k → k ≤ length m → take j m ≡ take j l → between i k m ≡ between i j l ++ between j k m
 between-join i j k l m a b c e =
@@ -71,12 +54,13 @@ abbrev apps : Rows → List Entry → Applications
 apps r l = record { rows = r; entries = l }
 
 pub stored-none : (s : List ℕ) (base : ℕ) (a : Applications) → StoreReady base a → Stored s base a 0 a
-unfolding times entriesValues rowsOf
+unfolding times entriesValues rowsOf entriesSound
 stored-none s base a p =
     let z : base + 0 ≡ base = add-zero base in
     record {
       reads = rw (z, between-none base (a .entries)) (nothing s (itself (a .rows .cursor)));
       grown = record { free = p .free; more = omega arith; kept = refl };
+      sound = λ h. rw (z, between-none base (a .entries));
       ready = rw z p;
       rows = rw (z, between-none base (a .entries)) (omega arith);
       kept = refl;
@@ -105,23 +89,40 @@ module _ (s : List ℕ) (base : ℕ) (a : Applications) (i : ℕ) {r : Rows} {l 
       between-join (a .rows .used) (r .used) (t .rows .used) (r .rows) (t .rows .rows) (p .grown .more) (w .grown .more)
       (let n = w .grown .free .long in let f = w .grown .free .few in omega arith) (w .grown .kept)
 
+  old-rows : rowsOf (between base (base + i) l) ≡ length (between (a .rows .used) (r .used) (r .rows))
+  old-rows =
+      let n = p .grown .free .long in
+      let f = p .grown .free .few in
+      let x = p .rows in
+      let y = length-between (a .rows .used) (r .used) (r .rows) (omega arith) in
+      omega arith
+
+  new-rows : t .entry .rows ≡ length (between (r .used) (t .rows .used) (t .rows .rows))
+  new-rows =
+      let n = w .grown .free .long in
+      let f = w .grown .free .few in
+      let x = w .rows in
+      let y = length-between (r .used) (t .rows .used) (t .rows .rows) (omega arith) in
+      omega arith
+
   values-are : entriesValues s (between base (base + (i + 1)) later) (between (a .rows .used) (t .rows .used) (t .rows .rows))
       ≡ entriesValues s (between base (base + i) l) (between (a .rows .used) (r .used) (r .rows)) ++ entryValues s (t .entry) (between (r .used) (t .rows .used) (t .rows .rows))
   values-are =
-      let n = p .grown .free .long in
-      let f = p .grown .free .few in
-      let n′ = w .grown .free .long in
-      let f′ = w .grown .free .few in
       rw (entries-are, rows-are)
-      (entries-snoc s (between base (base + i) l) (t .entry) (between (a .rows .used) (r .used) (r .rows)) (between (r .used) (t .rows .used) (t .rows .rows))
-      (let x = p .rows in let y = length-between (a .rows .used) (r .used) (r .rows) (omega arith) in omega arith)
-      (let x = w .rows in let y = length-between (r .used) (t .rows .used) (t .rows .rows) (omega arith) in omega arith))
+      (entries-more (between base (base + i) l) (t .entry) (between (a .rows .used) (r .used) (r .rows)) (between (r .used) (t .rows .used) (t .rows .rows)) old-rows new-rows s)
+
+  sound-are : t .rows .cursor .fault ≡ 0 → entriesSound (length s) (between base (base + (i + 1)) later) (between (a .rows .used) (t .rows .used) (t .rows .rows)) ≡ true
+  sound-are h =
+      rw (entries-are, rows-are)
+      (sound-more (between base (base + i) l) (t .entry) (between (a .rows .used) (r .used) (r .rows)) (between (r .used) (t .rows .used) (t .rows .rows)) old-rows new-rows (length s)
+      (p .sound (clean (w .reads) h)) (w .sound h))
 
   pub stored-more : Stored s base a (i + 1) (apps (t .rows) later)
   stored-more =
       record {
         reads = rw values-are (rw (add-one, times-snoc i (entry ∷ [])) (then (p .reads) (w .reads)));
         grown = grown-on (a .rows) r (t .rows) (p .grown) (w .grown);
+        sound = sound-are;
         ready =
             record {
               free = w .grown .free;

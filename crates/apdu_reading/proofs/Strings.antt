@@ -1,6 +1,6 @@
 -- Strings and lists of ids, component by component.
 -- Assumes nothing.
-use Prim.Native.Nat.{ℕ, zero, suc, _+_, _-_, _*_, _≤_, _<_}
+use Prim.Native.Nat.{ℕ, zero, suc, _+_, _*_, _≤_, _<_}
 use mathlib.Core.Path.{_≡_, refl, ap, sym, _∙_}
 use mathlib.Core.List.{List, [], _∷_, _++_, append-assoc, append-nil}
 use mathlib.Core.Bool.{Bool, true, false}
@@ -18,7 +18,8 @@ use Rattle.apdu_format.specs.Rules.{shape, checksOf, brings, times, announced}
 use Rattle.apdu_format.specs.Reading.{Value, fields, string, numbersOf, sum, need, fieldsOf, valueAt}
 use Rattle.apdu.specs.Values.{num, str, idsAt, idList}
 use Rattle.apdu_reading.specs.declared.cursor.Cursor.{Cursor}
-use Rattle.apdu_reading.specs.Cursor.{cursor, stateOf, component, markedAt, Reads}
+use Rattle.bits.specs.Strings.{isInside}
+use Rattle.apdu_reading.specs.Cursor.{cursor, stateOf, component, markedAt, Reads, Inside}
 use Rattle.apdu_reading.proofs.Pieces.{sees, good, fine, room-kept, piece-read}
 use Rattle.apdu_reading.proofs.Components.{count-extended, start-is}
 use Rattle.apdu_reading.proofs.Numbers.{integer-extended, extended-read, extended-saw}
@@ -101,6 +102,10 @@ module _ (s : List ℕ) (c : Cursor) {f l o : Cursor} (x : f ≡ component s str
   string-room =
       room-of s (stringOctets (l .value)) l (λ fs. refl) z ∙ room-of s stringLength f (λ fs. refl) y ∙ room-of s stringForm c (λ fs. refl) x
 
+  pub string-inside : Inside s true (markedAt o (l .value) (l .at))
+  unfolding markedAt shape need isInside
+  string-inside = record { so = λ h. le-leb _ _ (good s (stringOctets (l .value)) l (fault-of z h) .there) }
+
 -- ---- lists of ids
 
 pub times-snoc : (n : ℕ) (is : List Component) → times (suc n) is ≡ times n is ++ is
@@ -112,11 +117,12 @@ times-snoc (suc n) is = ap (λ (x : List Component). is ++ x) (times-snoc n is) 
 pub record Ids (s : List ℕ) (d : Cursor) (i : ℕ) (e : Cursor) : Type 0 where
   pub reads : Reads s (times i (integer ∷ [])) d e (idsAt s (d .at) i)
   pub at : e .fault ≡ 0 → e .at ≡ d .at + 8 * i
+  pub there : e .fault ≡ 0 → d .at ≤ 8 * length s → e .at ≤ 8 * length s
   pub room : e .room ≡ d .room
 
 pub ids-none : (s : List ℕ) (d : Cursor) → Ids s d 0 d
 unfolding times idsAt
-ids-none s d = record { reads = nothing s (itself d); at = λ h. omega arith; room = refl }
+ids-none s d = record { reads = nothing s (itself d); at = λ h. omega arith; there = λ h k. k; room = refl }
 
 module _ (s : List ℕ) (d : Cursor) (i : ℕ) {e f : Cursor} (p : Ids s d i e) (x : f ≡ component s integer e) where
   one-reads : Reads s (integer ∷ []) e f (sees s integer e ∷ [])
@@ -135,6 +141,7 @@ module _ (s : List ℕ) (d : Cursor) (i : ℕ) {e f : Cursor} (p : Ids s d i e) 
       (record {
         reads = rw (times-snoc i (integer ∷ [])) (valued (λ h. rw (one-at h .1)) (then (p .reads) one-reads));
         at = λ h. let a = one-at h in omega (arith, a .0, a .1);
+        there = λ h k. omega (arith, one-at h .0, extended-read integer-extended s e (fault-of x h) .there);
         room = integer-room s e x ∙ p .room;
       })
 
@@ -171,6 +178,16 @@ module _ (s : List ℕ) (c : Cursor) {d : Cursor} (x : d ≡ component s idCount
     list-reads =
         saying (valued (λ h. let a : d .fault ≡ 0 = clean (p .reads) h in rw (count-saw a)) (enter idCount c x ids-reads (λ h. still (p .reads) h))) (same e n (d .at))
 
+    pub list-inside : Inside s true (markedAt e n (d .at))
+    unfolding markedAt isInside
+    list-inside =
+        record {
+          so = λ h.
+              let z = start-there (clean (p .reads) h) .0 in
+              let w = p .there h (omega arith) in
+              le-leb (d .at + 8 * n) (8 * length s) (omega (arith, p .at h));
+        }
+
     pub list-room : e .room ≡ c .room
     unfolding announced
     list-room = p .room ∙ room-of s idCount c (λ fs. refl) x
@@ -179,13 +196,15 @@ module _ (s : List ℕ) (c : Cursor) {d : Cursor} (x : d ≡ component s idCount
 
 -- a string is read, with its length and its start
 pub string-by : (s : List ℕ) (c : Cursor) {f l o r : Cursor} → f ≡ component s stringForm c → l ≡ component s stringLength f → o ≡ component s (stringOctets (l .value)) l
-    → r ≡ markedAt o (l .value) (l .at) → l .value < 128 → Reads s (stringForm ∷ []) c r (str s (r .start) (r .value)) × (r .value < 128) × (r .room ≡ c .room)
+    → r ≡ markedAt o (l .value) (l .at) → l .value < 128
+    → Reads s (stringForm ∷ []) c r (str s (r .start) (r .value)) × (r .value < 128) × (r .room ≡ c .room) × Inside s true r
 unfolding markedAt
-string-by s c x y z m k = rw m (string-reads s c x y z, k, string-room s c x y z)
+string-by s c x y z m k = rw m (string-reads s c x y z, k, string-room s c x y z, string-inside s c x y z)
 
 pub list-by : (s : List ℕ) (c : Cursor) {d : Cursor} → d ≡ component s idCount c → (n : ℕ) {e r : Cursor} → Ids s d n e → n ≡ d .value
-    → r ≡ markedAt e (d .value) (d .at) → d .value ≤ 16 → Reads s (idCount ∷ []) c r (idList s (r .start) (r .value)) × (r .value < 128) × (r .room ≡ c .room)
+    → r ≡ markedAt e (d .value) (d .at) → d .value ≤ 16
+    → Reads s (idCount ∷ []) c r (idList s (r .start) (r .value)) × (r .value < 128) × (r .room ≡ c .room) × Inside s true r
 unfolding markedAt
 list-by s c {d} x n {e} p all m k =
     let v : markedAt e (d .value) (d .at) ≡ markedAt e n (d .at) = ap (λ (v : ℕ). markedAt e v (d .at)) (sym all) in
-    rw (m ∙ v) (list-reads s c x n p all, omega arith, list-room s c x n p all)
+    rw (m ∙ v) (list-reads s c x n p all, omega arith, list-room s c x n p all, list-inside s c x n p all)

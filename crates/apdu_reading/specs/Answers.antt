@@ -1,10 +1,12 @@
 -- What the reader's answer says, in the words of apdu_format's definitions: for each of its cases 01's number and position, or the message's values in
--- their order and the place behind them. Tidy says the rest: absent fields, unused rows and entries are 0, and so is everything beside a refusal.
+-- their order and the place behind them. Tidy says that absent fields, unused rows and entries are 0, and so is everything beside a refusal. SoundRecord says
+-- that each part which is present lies inside the octets read, and that each list has the rows that its counts announce: what 23 asks besides ranges.
 -- Assumes nothing.
 use Prim.Native.Nat.{ℕ}
 use mathlib.Core.Path.{_≡_}
 use mathlib.Core.List.{List}
-use lib.ListN.{replicate}
+use mathlib.Core.Bool.{true}
+use lib.ListN.{length, replicate}
 use lib.Dec.{eqb}
 use Rattle.refusals.specs.Check.{pick}
 use Rattle.apdu_format.specs.Component.{choice}
@@ -13,6 +15,7 @@ use Rattle.apdu.specs.declared.lists.Lists.{Lists}
 use Rattle.apdu.specs.declared.records.Message.{Message}
 use Rattle.apdu.specs.Values.{valuesOf, emptyRow, emptyEntry}
 use Rattle.apdu.specs.Tidy.{messageTidy, EntriesTidy, RowsTidy}
+use Rattle.apdu.specs.Sound.{sound}
 use Rattle.apdu_reading.specs.declared.cursor.Cursor.{Cursor}
 use Rattle.apdu_reading.specs.declared.front.Answer.{Answer}
 use Rattle.apdu_reading.specs.declared.front.Answer.the-variants as answer
@@ -32,6 +35,13 @@ tidyBy l end (answer.Refused k p) = (end ≡ 0) × EntriesTidy 0 (l .entries) ×
 
 pub record Tidy (r : Reading) : Type 0 where
   pub is : tidyBy (r .lists) (r .end) (r .answer)
+
+unfoldable pub soundBy : ℕ → Lists → Answer → Type 0
+soundBy octets l (answer.Message m) = sound octets m (l .entries) (l .rows) ≡ true
+soundBy octets l (answer.Refused k p) = Unit {0}
+
+pub record SoundRecord (s : List ℕ) (r : Reading) : Type 0 where
+  pub is : soundBy (length s) (r .lists) (r .answer)
 
 -- ---- within the crate
 
@@ -56,3 +66,4 @@ pub record Chosen (s : List ℕ) (c : Cursor) : Type 0 where
 pub record FrontRead (s : List ℕ) (r : Reading) : Type 0 where
   pub outcome : outcomeOf s r ≡ readFront s
   pub tidy : Tidy r
+  pub sound : SoundRecord s r

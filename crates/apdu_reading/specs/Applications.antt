@@ -1,15 +1,16 @@
 -- Application entries as they are read and stored. No public contract cites these.
 -- Assumes nothing.
-use Prim.Native.Nat.{ℕ, _+_, _-_, _≤_}
+use Prim.Native.Nat.{ℕ, _+_, _≤_}
 use mathlib.Core.Path.{_≡_}
 use mathlib.Core.List.{List, [], _∷_}
-use mathlib.Core.Bool.{Bool, false}
+use mathlib.Core.Bool.{Bool, true, false}
 use lib.ListN.{length, getD, take}
 use Rattle.apdu_format.specs.Component.{entryCount, entry, class}
 use Rattle.apdu_format.specs.Reading.{fields}
 use Rattle.apdu_format.specs.Rules.{when, times}
 use Rattle.apdu.specs.Values.{bitOf, num, num-if, if, entryValues, entriesValues, rowsOf, emptyEntry}
 use Rattle.apdu.specs.Tidy.{Absent, RowsTidy, EntriesTidy, entryTidy}
+use Rattle.apdu.specs.Sound.{partFits, nested, entrySound, entriesSound}
 use Rattle.apdu_reading.specs.declared.cursor.Cursor.{Cursor}
 use Rattle.apdu_reading.specs.declared.rows.Rows.{Rows}
 use Rattle.apdu_reading.specs.declared.applications.EntryHead.{EntryHead}
@@ -18,7 +19,7 @@ use Rattle.apdu_reading.specs.declared.applications.Applications.{Applic
 use Rattle.apdu_reading.specs.declared.link.AppList.{AppList}
 use Rattle.apdu_reading.specs.declared.link.Configuration.{Configuration}
 use Rattle.apdu_reading.specs.Cursor.{Reads}
-use Rattle.apdu_reading.specs.Rows.{row}
+use Rattle.apdu.specs.RowCounters.{row}
 use Rattle.apdu_reading.specs.Lists.{Leads, between}
 
 -- an entry up to its rows
@@ -26,6 +27,9 @@ pub record EntryOpens (s : List ℕ) (c : Cursor) (r : EntryHead) : Type 0 where
   pub leads : Leads s (entry ∷ []) c (times (r .due) (row 2)) (r .cursor) (entryValues s (r .entry) [])
   pub room : r .cursor .fault ≡ 0 → r .cursor .room + r .due ≡ c .room
   pub clean : r .cursor .fault ≡ 0 → c .fault ≡ 0
+  pub parts : r .cursor .fault ≡ 0 → partFits (length s) (r .entry .kind) (r .entry .n) (r .entry .start) ≡ true
+  pub none : r .entry .rows ≡ 0
+  pub counts : r .due ≡ nested (r .entry .kind) (r .entry .n)
   pub eid : Absent (r .entry .«has_eid») (r .entry .eid ∷ [])
   pub parameter : Absent (r .entry .«has_parameter») (r .entry .kind ∷ r .entry .n ∷ r .entry .start ∷ r .due ∷ [])
 
@@ -47,6 +51,7 @@ pub record EntryWhole (s : List ℕ) (r : Rows) (q : EntryRead) : Type 0 where
   pub reads : Reads s (entry ∷ []) (r .cursor) (q .rows .cursor) (entryValues s (q .entry) (between (r .used) (q .rows .used) (q .rows .rows)))
   pub grown : Grown r (q .rows)
   pub rows : r .used + q .entry .rows ≡ q .rows .used
+  pub sound : q .rows .cursor .fault ≡ 0 → entrySound (length s) (q .entry) (between (r .used) (q .rows .used) (q .rows .rows)) ≡ true
   pub tidy : q .rows .cursor .fault ≡ 0 → entryTidy (q .entry)
 
 -- entries from place base on
@@ -60,6 +65,8 @@ pub record Stored (s : List ℕ) (base : ℕ) (a : Applications) (n : ℕ) (r : 
   pub reads : Reads s (times n (entry ∷ [])) (a .rows .cursor) (r .rows .cursor)
       (entriesValues s (between base (base + n) (r .entries)) (between (a .rows .used) (r .rows .used) (r .rows .rows)))
   pub grown : Grown (a .rows) (r .rows)
+  pub sound : r .rows .cursor .fault ≡ 0
+      → entriesSound (length s) (between base (base + n) (r .entries)) (between (a .rows .used) (r .rows .used) (r .rows .rows)) ≡ true
   pub ready : StoreReady (base + n) r
   pub rows : a .rows .used + rowsOf (between base (base + n) (r .entries)) ≡ r .rows .used
   pub kept : take base (r .entries) ≡ take base (a .entries)
@@ -77,6 +84,8 @@ pub record ListMaybe (s : List ℕ) (p : Bool) (base : ℕ) (a : Applications) (
   pub reads : Reads s (when p (entryCount ∷ [])) (a .rows .cursor) (r .list .rows .cursor)
       (if p (num (r .count) ∷ entriesValues s (between base (base + r .count) (r .list .entries)) (between (a .rows .used) (r .list .rows .used) (r .list .rows .rows))))
   pub grown : Grown (a .rows) (r .list .rows)
+  pub sound : r .list .rows .cursor .fault ≡ 0
+      → entriesSound (length s) (between base (base + r .count) (r .list .entries)) (between (a .rows .used) (r .list .rows .used) (r .list .rows .rows)) ≡ true
   pub ready : StoreReady (base + r .count) (r .list)
   pub rows : a .rows .used + rowsOf (between base (base + r .count) (r .list .entries)) ≡ r .list .rows .used
   pub kept : take base (r .list .entries) ≡ take base (a .entries)

@@ -3,7 +3,7 @@
 use Prim.Native.Nat.{ℕ, _+_, _-_, _*_, _/_}
 use mathlib.Core.Path.{_≡_}
 use mathlib.Core.List.{List, [], _++_}
-use mathlib.Core.Bool.{Bool}
+use mathlib.Core.Bool.{Bool, true}
 use lib.ListN.{length}
 use lib.Dec.{ltb, eqb}
 use Rattle.refusals.specs.Check.{pick}
@@ -11,6 +11,8 @@ use Rattle.bits.specs.Bits.{bits, readField}
 use Rattle.apdu_format.specs.Component.{Component}
 use Rattle.apdu_format.specs.Rules.{shape}
 use Rattle.apdu_format.specs.Reading.{Value, need, State, step, runs}
+use Rattle.bits.specs.Strings.{isInside}
+use Rattle.apdu.specs.Sound.{soundIf}
 use Rattle.apdu_reading.specs.declared.cursor.Cursor.{Cursor}
 
 abbrev pub cursor : ℕ → ℕ → ℕ → ℕ → ℕ → ℕ → ℕ → Cursor
@@ -30,6 +32,10 @@ component s i c =
 -- from c to r the reader reads the components is, with these values
 pub record Reads (s : List ℕ) (is : List Component) (c r : Cursor) (vs : List Value) : Type 0 where
   pub so : (log : List Value) → runs (bits s) is (stateOf c log) ≡ stateOf r (log ++ vs)
+
+-- the part that was read, if p says that it is there, lies inside the octets
+pub record Inside (s : List ℕ) (p : Bool) (r : Cursor) : Type 0 where
+  pub so : r .fault ≡ 0 → soundIf p (isInside (length s) (r .start) (r .value)) ≡ true
 
 -- ---- what the cursor's functions compute
 

@@ -3,15 +3,17 @@
 use Prim.Native.Nat.{ℕ, _+_, _<_}
 use mathlib.Core.Path.{_≡_}
 use mathlib.Core.List.{List, [], _∷_}
-use mathlib.Core.Bool.{Bool, false}
+use mathlib.Core.Bool.{Bool, true, false}
+use lib.ListN.{length}
 use Rattle.apdu_format.specs.Component.{Component, rowCount, container}
 use Rattle.apdu_format.specs.Rules.{when, times}
 use Rattle.apdu_format.specs.Reading.{Value}
 use Rattle.apdu.specs.Values.{num-if, if, headValues}
+use Rattle.apdu.specs.Sound.{nested, partFits}
 use Rattle.apdu_reading.specs.declared.cursor.Cursor.{Cursor}
 use Rattle.apdu_reading.specs.declared.container.Head.{Head}
 use Rattle.apdu_reading.specs.Cursor.{Reads}
-use Rattle.apdu_reading.specs.Rows.{row, nested}
+use Rattle.apdu.specs.RowCounters.{row}
 use Rattle.apdu_reading.specs.Lists.{Leads}
 
 -- a component that announces no rows, if p says that it is there
@@ -27,6 +29,7 @@ pub record HeadMaybe (s : List ℕ) (p : Bool) (c : Cursor) (r : Head) : Type 0 
   pub room : r .cursor .fault ≡ 0 → r .cursor .room + nested (r .kind) (r .n) ≡ c .room
   pub small : (r .kind < 128) × (r .n < 128)
   pub clean : r .cursor .fault ≡ 0 → c .fault ≡ 0
+  pub parts : r .cursor .fault ≡ 0 → partFits (length s) (r .kind) (r .n) (r .start) ≡ true
   pub absent : p ≡ false → (r .kind ≡ 0) × (r .n ≡ 0) × (r .start ≡ 0)
 
 -- an attribute list up to its rows

@@ -7,15 +7,15 @@ ghost use lib.ListN.{length};
 ghost use Rattle.apdu_reading.specs.Applications.{EntryOpens, Open, EntryWhole, Stored, StoreReady, CountMaybe};
 use crate::component::count;
 use crate::component::entry_octet;
-use crate::container::Due;
-use crate::container::announces;
 use crate::cursor::Cursor;
 use crate::cursor::marked;
 use crate::optional::container_if;
 use crate::optional::integer_if;
 use crate::rows::Rows;
 use crate::rows::fill;
+use apdu::Due;
 use apdu::Entry;
+use apdu::announces;
 
 // An entry up to its rows, of which `due` are announced.
 pub struct EntryHead {
@@ -41,7 +41,7 @@ pub(crate) fn entry_head(s: &[u8], c: Cursor) -> EntryHead
         aid: (octet.value % 32) as u8,
         eid: eid.value as u8,
         kind: h.kind as u8,
-        n: h.n as u8,
+        n: h.n as u16,
         start: h.start,
         rows: 0,
     };
@@ -53,14 +53,12 @@ pub struct EntryRead {
     pub rows: Rows,
 }
 
-// An entry with its rows, stored behind those that are read.
-pub(crate) fn whole_entry(s: &[u8], r: Rows) -> EntryRead
-    requires { ⌜ (length (now s) ≤ 512) × Open r ⌝ }
+// An entry with the rows that it announces, stored behind those that are read.
+pub(crate) fn with_rows(s: &[u8], h: EntryHead, r: Rows) -> EntryRead
+    requires { ⌜ (length (now s) ≤ 512) × Open r × EntryOpens (now s) (r .cursor) h ⌝ }
     ensures { λ q. ⌜ EntryWhole (now (s .entry)) r q ⌝ }
 {
     let before = r.used;
-    let c = r.cursor;
-    let h = entry_head(s, c);
     let cursor = h.cursor;
     let stored = r.rows;
     let rows = fill(
@@ -103,18 +101,32 @@ pub(crate) fn entries(s: &[u8], base: u64, n: u64, a: Applications) -> Applicati
     requires { ⌜ (length (now s) ≤ 512) × (base + n ≤ 32) × StoreReady base a ⌝ }
     ensures { λ r. ⌜ Stored (now (s .entry)) base a n r ⌝ }
 {
-    let mut rows = a.rows;
+    let held = a.rows;
+    let mut cursor = held.cursor;
+    let mut used = held.used;
+    let mut rows = held.rows;
     let mut list = a.entries;
     let mut i: u64 = 0;
     while i < n {
-        let t = whole_entry(s, rows);
-        let entry = t.entry;
-        rows = t.rows;
-        list[(base + i) as usize] = entry;
+        let h = entry_head(s, cursor);
+        let place = (base + i) as usize;
         i += 1;
+        if h.due == 0 {
+            let entry = h.entry;
+            cursor = h.cursor;
+            list[place] = entry;
+        } else {
+            let t = with_rows(s, h, Rows { cursor, used, rows });
+            let entry = t.entry;
+            let more = t.rows;
+            cursor = more.cursor;
+            used = more.used;
+            rows = more.rows;
+            list[place] = entry;
+        }
     }
     Applications {
-        rows,
+        rows: Rows { cursor, used, rows },
         entries: list,
     }
 }

@@ -1,17 +1,18 @@
 // The components of 01, each by one function that leaves a cursor with a fault as it is.
 ghost use mathlib.Core.Path.{_≡_};
 ghost use mathlib.Core.List.{[], _∷_};
+ghost use mathlib.Core.Bool.{true};
 ghost use Prim.Native.Nat.{_<_, _≤_};
 ghost use lib.ListN.{length};
 ghost use Rattle.apdu_format.specs.Component.{integer, stringForm, idCount, rowCount, entryCount, entry, container, choice};
-ghost use Rattle.apdu_format.specs.Rules.{knownKind};
 ghost use Rattle.apdu.specs.Values.{str, idList};
-ghost use Rattle.apdu_reading.specs.Cursor.{component, Reads};
+ghost use Rattle.apdu_reading.specs.Cursor.{component, Reads, Inside};
 use crate::cursor::Cursor;
 use crate::cursor::judged;
 use crate::cursor::marked;
 use crate::cursor::piece;
 use crate::cursor::spend;
+use apdu::known;
 
 // A message's choice.
 pub(crate) fn choice(s: &[u8], c: Cursor) -> Cursor
@@ -55,16 +56,6 @@ pub(crate) fn row_count(s: &[u8], depth: usize, c: Cursor) -> Cursor
     spend(judged(c, refusals::COUNT_TOO_LARGE, many, d))
 }
 
-// Whether a container kind is read here.
-pub(crate) fn known(kind: u64) -> bool
-    ensures { λ r. ⌜ r ≡ knownKind kind ⌝ }
-{
-    (kind == apdu::OCTET_STRING)
-        | (kind == apdu::DSRC_EID)
-        | (kind == apdu::ATTRIBUTE_ID_LIST)
-        | (kind == apdu::ATTRIBUTE_LIST)
-}
-
 // The kind of a container at the given depth.
 pub(crate) fn kind(s: &[u8], depth: usize, c: Cursor) -> Cursor
     requires { ⌜ length (now s) ≤ 512 ⌝ }
@@ -87,7 +78,7 @@ pub(crate) fn entry_octet(s: &[u8], c: Cursor) -> Cursor
 // An octet string: its length is the value afterwards, and start the place of its octets.
 pub(crate) fn string(s: &[u8], c: Cursor) -> Cursor
     requires { ⌜ length (now s) ≤ 512 ⌝ }
-    ensures { λ r. ⌜ Reads (now (s .entry)) (stringForm ∷ []) c r (str (now (s .entry)) (r .start) (r .value)) × (r .value < 128) × (r .room ≡ c .room) ⌝ }
+    ensures { λ r. ⌜ Reads (now (s .entry)) (stringForm ∷ []) c r (str (now (s .entry)) (r .start) (r .value)) × (r .value < 128) × (r .room ≡ c .room) × Inside (now (s .entry)) true r ⌝ }
 {
     let p = piece(s, 1, true, c);
     let form = judged(c, refusals::EXTENSION_BIT, p.value == 1, p);
@@ -99,7 +90,7 @@ pub(crate) fn string(s: &[u8], c: Cursor) -> Cursor
 // A list of ids: their number is the value afterwards, and start the place of the first.
 pub(crate) fn id_list(s: &[u8], c: Cursor) -> Cursor
     requires { ⌜ length (now s) ≤ 512 ⌝ }
-    ensures { λ r. ⌜ Reads (now (s .entry)) (idCount ∷ []) c r (idList (now (s .entry)) (r .start) (r .value)) × (r .value < 128) × (r .room ≡ c .room) ⌝ }
+    ensures { λ r. ⌜ Reads (now (s .entry)) (idCount ∷ []) c r (idList (now (s .entry)) (r .start) (r .value)) × (r .value < 128) × (r .room ≡ c .room) × Inside (now (s .entry)) true r ⌝ }
 {
     let d = count(s, c);
     let n = d.value;

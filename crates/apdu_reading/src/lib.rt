@@ -2,7 +2,7 @@
 // rows beside it, or a refusal's number and position.
 ghost use mathlib.Core.Path.{_≡_};
 ghost use Rattle.apdu_format.specs.Reading.{readMessage};
-ghost use Rattle.apdu_reading.specs.Answers.{outcomeOf, Tidy};
+ghost use Rattle.apdu_reading.specs.Answers.{outcomeOf, Tidy, SoundRecord};
 
 mod applications;
 mod component;
@@ -22,7 +22,7 @@ use front::refused;
 
 // The message that `s` is: 21 for more than 512 octets, then the faults of its components, and 14 for octets left behind it.
 pub fn read(s: &[u8]) -> Reading
-    ensures { λ r. ⌜ (outcomeOf (now (s .entry)) r ≡ readMessage (now (s .entry))) × Tidy r ⌝ }
+    ensures { λ r. ⌜ (outcomeOf (now (s .entry)) r ≡ readMessage (now (s .entry))) × Tidy r × SoundRecord (now (s .entry)) r ⌝ }
 {
     if apdu::LONGEST_MESSAGE < s.len() {
         return refused(refusals::APDU_TOO_LONG, apdu::LONGEST_MESSAGE);

@@ -3,13 +3,13 @@ ghost use mathlib.Core.Path.{_≡_};
 ghost use Prim.Native.Nat.{_≤_};
 ghost use lib.ListN.{length};
 ghost use Rattle.apdu_reading.specs.Boxed.{Boxed, Listed};
-use crate::container::Due;
-use crate::container::announces;
 use crate::cursor::Cursor;
 use crate::optional::attributes_if;
 use crate::optional::container_if;
 use crate::rows::Rows;
 use crate::rows::fill;
+use apdu::Due;
+use apdu::announces;
 use apdu::no_rows;
 
 // A container with its rows: its kind, its length, number or count, and where its octets or ids start.
@@ -29,6 +29,18 @@ pub(crate) fn parameter(s: &[u8], p: bool, c: Cursor) -> Container
     let n = announces(h.kind, h.n);
     let cursor = h.cursor;
     let rows = no_rows();
+    if n == 0 {
+        return Container {
+            kind: h.kind,
+            n: h.n,
+            start: h.start,
+            rows: Rows {
+                cursor,
+                used: 0,
+                rows,
+            },
+        };
+    }
     let rows = fill(
         s,
         Due {

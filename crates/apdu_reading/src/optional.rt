@@ -7,6 +7,7 @@ ghost use lib.ListN.{length};
 ghost use Rattle.apdu_format.specs.Component.{integer, stringForm, idCount};
 ghost use Rattle.apdu_format.specs.Rules.{when};
 ghost use Rattle.apdu.specs.Values.{num-if, if, str, idList};
+ghost use Rattle.apdu_reading.specs.Cursor.{Inside};
 ghost use Rattle.apdu_reading.specs.Optional.{Maybe, HeadMaybe, AttributesMaybe};
 use crate::component::id_list;
 use crate::component::integer;
@@ -29,7 +30,7 @@ pub(crate) fn integer_if(s: &[u8], p: bool, c: Cursor) -> Cursor
 
 pub(crate) fn string_if(s: &[u8], p: bool, c: Cursor) -> Cursor
     requires { ⌜ length (now s) ≤ 512 ⌝ }
-    ensures { λ r. ⌜ Maybe (now (s .entry)) p (stringForm ∷ []) c r (if p (str (now (s .entry)) (r .start) (r .value))) ⌝ }
+    ensures { λ r. ⌜ Maybe (now (s .entry)) p (stringForm ∷ []) c r (if p (str (now (s .entry)) (r .start) (r .value))) × Inside (now (s .entry)) p r ⌝ }
 {
     if p {
         return string(s, c);
@@ -39,7 +40,7 @@ pub(crate) fn string_if(s: &[u8], p: bool, c: Cursor) -> Cursor
 
 pub(crate) fn id_list_if(s: &[u8], p: bool, c: Cursor) -> Cursor
     requires { ⌜ length (now s) ≤ 512 ⌝ }
-    ensures { λ r. ⌜ Maybe (now (s .entry)) p (idCount ∷ []) c r (if p (idList (now (s .entry)) (r .start) (r .value))) ⌝ }
+    ensures { λ r. ⌜ Maybe (now (s .entry)) p (idCount ∷ []) c r (if p (idList (now (s .entry)) (r .start) (r .value))) × Inside (now (s .entry)) p r ⌝ }
 {
     if p {
         return id_list(s, c);

@@ -6,9 +6,9 @@ ghost use lib.Dec.{eqb, ltb};
 ghost use mathlib.Core.Bool.{false};
 ghost use Rattle.refusals.specs.Check.{pick};
 ghost use Rattle.apdu_reading.specs.Lists.{Ready, Filled};
-use crate::container::Due;
 use crate::container::next_row;
 use crate::cursor::Cursor;
+use apdu::Due;
 use apdu::Row;
 
 // The rows read so far: the first `used`; the others are empty.

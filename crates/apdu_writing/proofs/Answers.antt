@@ -1,33 +1,31 @@
 -- What `write` answers, one law for each way out.
 -- Assumes nothing.
-use Prim.Native.Nat.{ℕ, zero, suc, _+_, _-_, _*_, _/_, _≤_, _<_}
+use Prim.Native.Nat.{ℕ, _+_, _*_, _/_, _≤_, _<_}
 use mathlib.Core.Path.{_≡_, refl, ap, sym, _∙_}
-use mathlib.Core.List.{List, [], _∷_, _++_, append-assoc, append-nil}
+use mathlib.Core.List.{List, [], _∷_, _++_, append-nil}
 use mathlib.Core.Bool.{Bool, true, false, _&&_, not}
 use mathlib.Core.Logic.{_⊎_, inl, inr}
 use native.Mathlib.Omega.{arith}
-use lib.ListN.{length, take, drop, length-append, length-drop}
-use lib.Dec.{ltb, eqb}
+use lib.ListN.{length, drop, length-append, length-drop}
+use lib.Dec.{ltb}
 use borrow.Author.Tests.{lt-ltb, le-ltb, ltb-true, ltb-false, not-true, not-false}
-use Rattle.refusals.specs.Check.{pick, check, firstOf}
+use Rattle.refusals.specs.Check.{firstOf}
 use Rattle.refusals.proofs.Tests.{by-cases, and-true, and-left, and-right}
-use Rattle.bits.specs.Bits.{Bits, Octets, bits, number, octets, putBits}
+use Rattle.bits.specs.Bits.{Bits, Octets, bits, octets, putBits}
 use Rattle.bits.proofs.Laws.{below-append, below-drop, drop-bits, octets-bits, octets-small, bits-octets, bits-append, length-octets}
-use Rattle.apdu_format.specs.Limits.{longestMessage}
-use Rattle.apdu_format.specs.Component.{Component, choice}
+use Rattle.apdu_format.specs.Component.{choice}
 use Rattle.apdu_format.specs.Reading.{Value}
-use Rattle.apdu_format.specs.Writing.{Pen, pen, written, none, inRange, encode, size, encodedOctets}
-use Rattle.apdu_format.proofs.Tests.{never, both}
+use Rattle.apdu_format.specs.Writing.{Pen, written, none, inRange, encode, size, encodedOctets}
+use Rattle.apdu_format.proofs.Tests.{never}
 use Rattle.apdu_format.proofs.Whole.{written-whole}
 use Rattle.apdu.specs.declared.lists.Row.{Row}
 use Rattle.apdu.specs.declared.lists.Entry.{Entry}
 use Rattle.apdu.specs.declared.records.Message.{Message}
 use Rattle.apdu.specs.Values.{valuesOf}
 use Rattle.apdu_writing.specs.declared.quill.Quill.{Quill}
-use Rattle.apdu.specs.Sound.{sound}
-use Rattle.apdu_writing.specs.Quill.{quill, far, least, penAt, writes, Goes, Stops, Moves, Puts}
+use Rattle.apdu.specs.Sound.{sound, wellFormed}
+use Rattle.apdu_writing.specs.Quill.{quill, far, least, penAt, writes, Goes, Stops, Puts}
 use Rattle.apdu_writing.specs.Answer.{Answer, refused, refusedAt, writeRefusal, answered, writeAnswer, writeOutput}
-use Rattle.apdu.specs.Sound.{wellFormed}
 use Rattle.apdu_writing.specs.Answer.{octets as so-many}
 use Rattle.apdu_writing.proofs.Levels.{writes-none}
 use Rattle.apdu_writing.proofs.Chains.{near-is}

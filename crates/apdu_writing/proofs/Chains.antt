@@ -1,8 +1,8 @@
 -- Writings put together: one component and what it brings, one after the other.
 -- Assumes nothing.
-use Prim.Native.Nat.{ℕ, zero, suc, _+_, _-_, _*_, _≤_, _<_}
+use Prim.Native.Nat.{ℕ, _+_, _≤_, _<_}
 use mathlib.Core.Path.{_≡_, refl, ap, sym, _∙_}
-use mathlib.Core.List.{List, [], _∷_, _++_, append-assoc, append-nil}
+use mathlib.Core.List.{List, [], _++_, append-assoc, append-nil}
 use mathlib.Core.Bool.{Bool, true, false, _&&_}
 use mathlib.Core.Logic.{_⊎_, inl, inr}
 use native.Mathlib.Nat.{add-assoc}
@@ -10,18 +10,17 @@ use native.Mathlib.Omega.{arith}
 use lib.ListN.{length, length-append}
 use lib.Dec.{ltb}
 use borrow.Author.Tests.{ltb-true, ltb-false}
-use Rattle.refusals.specs.Check.{pick}
 use Rattle.refusals.proofs.Tests.{by-test, by-cases, and-true, and-left, and-right}
-use Rattle.bits.specs.Bits.{Bits, Octets, putBits}
+use Rattle.bits.specs.Bits.{Octets, putBits}
 use Rattle.bits.proofs.Laws.{below-nil, below-append}
 use Rattle.bits.proofs.Put.{length-put, put-small, put-append, put-none}
 use Rattle.apdu_format.specs.Component.{Component}
 use Rattle.apdu_format.specs.Reading.{Value}
 use Rattle.apdu_format.specs.Writing.{Pen}
-use Rattle.apdu_format.proofs.Tests.{never, both}
+use Rattle.apdu_format.proofs.Tests.{never}
 use Rattle.apdu_writing.specs.declared.quill.Quill.{Quill}
 use Rattle.apdu_writing.specs.Quill.{far, least, penAt, writes, Goes, Stops, Moves, Puts}
-use Rattle.apdu_writing.proofs.Levels.{writes-none, writes-append, writes-dead}
+use Rattle.apdu_writing.proofs.Levels.{writes-append, writes-dead}
 
 -- ---- places
 

@@ -1,37 +1,33 @@
 -- The components, one by one: which values are in range, and what they bring.
 -- Assumes nothing.
-use Prim.Native.Nat.{ℕ, zero, suc, _+_, _-_, _*_, _/_, _%_, _^_, _≤_, _<_}
+use Prim.Native.Nat.{ℕ, zero, suc, _+_, _*_, _≤_, _<_}
 use mathlib.Core.Path.{_≡_, refl, ap, sym, _∙_}
-use mathlib.Core.List.{List, [], _∷_, _++_, append-assoc, append-nil}
+use mathlib.Core.List.{List, [], _∷_, _++_}
 use mathlib.Core.Bool.{Bool, true, false, _&&_}
-use mathlib.Core.Logic.{_⊎_, inl, inr}
+use mathlib.Core.Logic.{inl}
 use native.Mathlib.Omega.{arith}
-use lib.ListN.{length, take, drop, length-append, length-drop}
+use lib.ListN.{length, take, drop, length-drop}
 use lib.Seq.{drop-drop, take-add, length-take-le}
-use lib.Dec.{ltb, leb, eqb}
-use borrow.Author.Tests.{ltb-true, ltb-false, le-leb, lt-ltb, le-ltb}
-use Rattle.refusals.specs.Check.{pick, check, firstOf}
-use Rattle.refusals.proofs.Tests.{by-test, by-cases, and-true, and-left, and-right}
-use Rattle.bits.specs.Bits.{Bits, Octets, bits, putBits, digits, writeField}
-use Rattle.bits.specs.Bits.{field}
+use lib.Dec.{ltb}
+use borrow.Author.Tests.{le-leb, le-ltb}
+use Rattle.refusals.specs.Check.{pick, firstOf}
+use Rattle.refusals.proofs.Tests.{by-cases, and-true, and-right}
+use Rattle.bits.specs.Bits.{bits, putBits, writeField, field}
 use Rattle.bits.specs.Strings.{isInside, stringAt, writeFits, writeString}
 use Rattle.bits.proofs.Laws.{bits-small, below-drop, below-take, length-bits, digits-number}
 use Rattle.bits.proofs.Strings.{inside-le}
 use Rattle.apdu_format.proofs.Values.{fits-value}
 use Rattle.apdu_format.specs.Component.{Component, integer, stringForm, stringLength, stringOctets}
-use Rattle.apdu_format.specs.Rules.{Shape, widths, raw, shape, checksOf, brings, announced, when}
+use Rattle.apdu_format.specs.Rules.{raw, shape, checksOf, brings, announced, when}
 use Rattle.apdu_format.specs.Reading.{Value, fields, string, numbersOf, sum, need, valueAt}
-use Rattle.apdu_format.specs.Writing.{bitsOf, fits, isValue, fieldBits, fieldsFit}
-use Rattle.apdu_format.proofs.Tests.{never, both}
-use Rattle.apdu.specs.Values.{num, num-if, str, if}
+use Rattle.apdu_format.specs.Writing.{bitsOf, fits, isValue, fieldsFit}
+use Rattle.apdu_format.proofs.Tests.{never}
+use Rattle.apdu.specs.Values.{num, str, if}
+use Rattle.apdu.proofs.Laws.{and-unit}
 use Rattle.apdu_writing.specs.declared.quill.Quill.{Quill}
-use Rattle.apdu_writing.specs.Quill.{quill, behind, Put, spent, Goes, Stops, Moves, Puts}
+use Rattle.apdu_writing.specs.Quill.{behind, Put, Moves, Puts}
 use Rattle.apdu_writing.proofs.Chains.{nothing, idle, then}
-use Rattle.apdu_writing.proofs.Leaves.{packed, Writes, leaf, leaf-spent, in-number}
-
-pub and-unit : (b : Bool) → (b && true) ≡ b
-and-unit true = refl
-and-unit false = refl
+use Rattle.apdu_writing.proofs.Leaves.{packed, leaf, in-number}
 
 -- ---- numbers
 

@@ -1,35 +1,34 @@
 -- Counts, container kinds and lists of ids: which values are in range, and what they bring.
 -- Assumes nothing.
-use Prim.Native.Nat.{ℕ, zero, suc, _+_, _-_, _*_, _/_, _%_, _^_, _≤_, _<_}
+use Prim.Native.Nat.{ℕ, suc, _+_, _-_, _*_, _/_, _%_, _≤_, _<_}
 use mathlib.Core.Path.{_≡_, refl, ap, sym, _∙_}
-use mathlib.Core.List.{List, [], _∷_, _++_, append-assoc, append-nil}
+use mathlib.Core.List.{List, [], _∷_, _++_}
 use mathlib.Core.Bool.{Bool, true, false, _&&_, _||_, not}
-use mathlib.Core.Logic.{_⊎_, inl, inr}
+use mathlib.Core.Logic.{inl}
 use native.Mathlib.Numerals.{add-one}
 use native.Mathlib.Omega.{arith}
-use lib.ListN.{length, take, drop, getD, length-append, length-drop}
+use lib.ListN.{length, take, drop, length-drop}
 use lib.Seq.{drop-drop, take-all}
 use lib.Dec.{ltb, leb, eqb}
-use borrow.Author.Tests.{ltb-true, ltb-false, leb-true, leb-false, le-leb, lt-leb, lt-ltb, le-ltb, eqb-true, eqb-false, not-true}
-use Rattle.refusals.specs.Check.{pick, check, firstOf}
-use Rattle.refusals.proofs.Tests.{by-test, by-cases, and-true, and-left, and-right}
-use Rattle.bits.specs.Bits.{Bits, Octets, bits, number, field, putBits, digits, writeField, readField}
+use borrow.Author.Tests.{leb-true, leb-false, lt-ltb, le-ltb, eqb-true, eqb-false, not-true}
+use Rattle.refusals.specs.Check.{pick, firstOf}
+use Rattle.refusals.proofs.Tests.{by-cases, and-right}
+use Rattle.bits.specs.Bits.{bits, number, field, writeField, readField}
 use Rattle.bits.specs.Strings.{isInside}
 use Rattle.bits.proofs.Laws.{bits-small, below-nil, below-drop, number-add, number-lt, drop-bits}
 use Rattle.bits.proofs.Put.{put-none}
 use Rattle.bits.proofs.Strings.{found-outside, found-inside}
 use Rattle.apdu_format.specs.Component.{Component, integer, idCount, listStart, rowCount, entryCount, entry, container}
-use Rattle.apdu_format.specs.Rules.{Shape, widths, raw, shape, checksOf, brings, announced, content, knownKind, times, when}
-use Rattle.apdu_format.specs.Reading.{Value, fields, string, numbersOf, sum, need, valueAt, fieldsOf}
-use Rattle.apdu_format.specs.Writing.{bitsOf, fits, isValue, fieldBits, fieldsFit, areBits}
+use Rattle.apdu_format.specs.Rules.{widths, shape, checksOf, brings, announced, content, knownKind, times}
+use Rattle.apdu_format.specs.Reading.{fields, string, numbersOf, sum, valueAt, fieldsOf}
+use Rattle.apdu_format.specs.Writing.{bitsOf, fits, isValue, fieldsFit, areBits}
 use Rattle.apdu_format.proofs.Tests.{never, both}
 use Rattle.apdu.specs.Values.{num, idAt, idsAt, idList}
 use Rattle.apdu_writing.specs.declared.quill.Quill.{Quill}
-use Rattle.apdu_writing.specs.Quill.{quill, least, behind, Put, spent, Goes, Stops, Moves, Puts, Few, Known, penAt, writes}
+use Rattle.apdu_writing.specs.Quill.{quill, least, behind, Put, spent, Moves, Puts, Few, Known, penAt, writes}
 use Rattle.apdu_writing.proofs.Levels.{writes-fine}
-use Rattle.apdu_writing.proofs.Chains.{nothing, idle, then, before}
+use Rattle.apdu_writing.proofs.Chains.{idle, then, before}
 use Rattle.apdu_writing.proofs.Leaves.{packed, Writes, leaf, leaf-spent, in-number}
-use Rattle.apdu_writing.proofs.Components.{and-unit}
 
 -- an extension bit 0 and a number, in the code
 octet-by : (i : Component) (n : ℕ) (fine : Bool) (c : Quill) (o : List ℕ) → shape i ≡ widths (1 ∷ 7 ∷ []) → fine ≡ isValue i (c .room) (num n)

@@ -1,34 +1,32 @@
 -- Application entries one after the other, each with its rows.
 -- Assumes nothing.
-use Prim.Native.Nat.{ℕ, zero, suc, _+_, _-_, _*_, _^_, _≤_, _<_}
+use Prim.Native.Nat.{ℕ, suc, _+_, _-_, _*_, _≤_, _<_}
 use mathlib.Core.Path.{_≡_, refl, ap, sym, _∙_}
-use mathlib.Core.List.{List, [], _∷_, _++_, append-assoc, append-nil}
-use mathlib.Core.Bool.{Bool, true, false, _&&_, not}
+use mathlib.Core.List.{List, [], _∷_, _++_}
+use mathlib.Core.Bool.{true, _&&_, not}
 use native.Mathlib.Omega.{arith}
-use native.Mathlib.Nat.{add-zero, add-assoc}
 use native.Mathlib.Numerals.{add-one}
-use lib.ListN.{length, take, drop, getD, length-drop, length-take}
+use lib.ListN.{length, take, drop, getD, length-drop}
 use lib.Seq.{take-suc, take-all, drop-drop, length-take-le, getD-take, getD-drop}
-use lib.Dec.{ltb, eqb}
-use borrow.Author.Tests.{ltb-true, not-true, not-false}
-use Rattle.refusals.specs.Check.{pick, firstOf}
+use lib.Dec.{ltb}
+use borrow.Author.Tests.{ltb-true, not-true}
+use Rattle.refusals.specs.Check.{firstOf}
 use Rattle.bits.specs.Bits.{writeField}
-use Rattle.apdu_format.specs.Component.{Component, integer, entry, entryCount, container}
-use Rattle.apdu_format.specs.Rules.{widths, shape, checksOf, brings, announced, when, times, isSet}
-use Rattle.apdu_format.specs.Reading.{Value, fields, numbersOf, sum}
+use Rattle.apdu_format.specs.Component.{integer, entry, entryCount, container}
+use Rattle.apdu_format.specs.Rules.{shape, checksOf, brings, announced, when, times, isSet}
+use Rattle.apdu_format.specs.Reading.{fields, numbersOf, sum}
 use Rattle.apdu_format.specs.Writing.{fits, isValue, fieldsFit}
 use Rattle.apdu_format.proofs.Tests.{never}
 use Rattle.apdu.specs.declared.lists.Row.{Row}
 use Rattle.apdu.specs.declared.lists.Entry.{Entry}
 use Rattle.apdu.specs.Values.{bitOf, num, num-if, if, containerValues, entryValues, entriesValues, rowsOf, emptyEntry}
+use Rattle.apdu.proofs.Laws.{and-unit, rows-of-snoc, entries-snoc, sound-snoc}
 use Rattle.apdu_writing.specs.declared.quill.Quill.{Quill}
-use Rattle.apdu_writing.specs.declared.entries.EntriesPut.{EntriesPut}
 use Rattle.apdu.specs.Sound.{soundIf, containerSound, entrySound, entriesSound}
-use Rattle.apdu_writing.specs.Quill.{Put, Moves, Puts, Small, Few}
+use Rattle.apdu_writing.specs.Quill.{Put, Moves, Puts, Small}
 use Rattle.apdu_writing.specs.Applications.{Listed}
 use Rattle.apdu_writing.proofs.Chains.{nothing, idle, then, and-then, before}
 use Rattle.apdu_writing.proofs.Leaves.{packed, leaf, in-number}
-use Rattle.apdu_writing.proofs.Components.{and-unit}
 use Rattle.apdu_writing.proofs.Leads.{is-set, bit-fits}
 
 -- ---- one entry
@@ -66,38 +64,6 @@ module _ (e : Entry) where
   unfolding entrySound entryValues
   entry-by s rs p q g m eid par = then (entry-lead p q g m) (and-then eid par)
 
--- ---- one more
-
-rows-snoc : (xs : List Entry) (e : Entry) → rowsOf (xs ++ (e ∷ [])) ≡ rowsOf xs + e .rows
-unfolding rowsOf
-rows-snoc [] e = omega arith
-rows-snoc (x ∷ xs) e = let h = rows-snoc xs e in omega arith
-
-next-rows : (xs : List Entry) (k : ℕ) (rs : List Row) → drop (rowsOf xs) (drop k rs) ≡ drop (k + rowsOf xs) rs
-next-rows xs k rs = drop-drop (rowsOf xs) k rs
-
-values-snoc : (s : List ℕ) (xs : List Entry) (e : Entry) (rs : List Row)
-    → entriesValues s (xs ++ (e ∷ [])) rs ≡ entriesValues s xs rs ++ entryValues s e (take (e .rows) (drop (rowsOf xs) rs))
-unfolding entriesValues rowsOf
-values-snoc s [] e rs = append-nil (entryValues s e (take (e .rows) rs))
-values-snoc s (x ∷ xs) e rs =
-    ap (λ (l : List Value). entryValues s x (take (x .rows) rs) ++ l) (values-snoc s xs e (drop (x .rows) rs))
-    ∙ sym (append-assoc (entryValues s x (take (x .rows) rs)) (entriesValues s xs (drop (x .rows) rs)) (entryValues s e (take (e .rows) (drop (rowsOf xs) (drop (x .rows) rs)))))
-    ∙ ap (λ (l : List Row). (entryValues s x (take (x .rows) rs) ++ entriesValues s xs (drop (x .rows) rs)) ++ entryValues s e (take (e .rows) l)) (next-rows xs (x .rows) rs)
-
-and-assoc : (a b c : Bool) → ((a && b) && c) ≡ (a && (b && c))
-and-assoc true b c = refl
-and-assoc false b c = refl
-
-sound-snoc : (n : ℕ) (xs : List Entry) (e : Entry) (rs : List Row)
-    → entriesSound n (xs ++ (e ∷ [])) rs ≡ (entriesSound n xs rs && entrySound n e (take (e .rows) (drop (rowsOf xs) rs)))
-unfolding entriesSound rowsOf
-sound-snoc n [] e rs = and-unit (entrySound n e (take (e .rows) rs))
-sound-snoc n (x ∷ xs) e rs =
-    ap (λ (b : Bool). entrySound n x (take (x .rows) rs) && b) (sound-snoc n xs e (drop (x .rows) rs))
-    ∙ sym (and-assoc (entrySound n x (take (x .rows) rs)) (entriesSound n xs (drop (x .rows) rs)) (entrySound n e (take (e .rows) (drop (rowsOf xs) (drop (x .rows) rs)))))
-    ∙ ap (λ (l : List Row). (entrySound n x (take (x .rows) rs) && entriesSound n xs (drop (x .rows) rs)) && entrySound n e (take (e .rows) l)) (next-rows xs (x .rows) rs)
-
 -- ---- the first i of these entries are written
 
 pub record Turns (s : List ℕ) (all : List Entry) (n : ℕ) (rs : List Row) (first i used : ℕ) (c d : Quill) (o o' : List ℕ) : Type 0 where
@@ -127,12 +93,12 @@ module _ (es : List Entry) (from n i : ℕ) (e : length es ≡ 32) (f : from ≤
         let t : take (i + 1) all ≡ take i all ++ (w ∷ []) =
         ap (λ (k : ℕ). take k all) (add-one i) ∙ take-suc all i emptyEntry (omega (arith, all-length)) ∙ ap (λ (y : Entry). take i all ++ (y ∷ [])) (sym (x ∙ all-entry h)) in
         let m : n - i ≡ suc (n - (i + 1)) = omega arith in
-        let u : drop used rs ≡ drop (rowsOf (take i all)) (drop first rs) = ap (λ (k : ℕ). drop k rs) (p .is) ∙ sym (next-rows (take i all) first rs) in
+        let u : drop used rs ≡ drop (rowsOf (take i all)) (drop first rs) = ap (λ (k : ℕ). drop k rs) (p .is) ∙ sym (drop-drop (rowsOf (take i all)) first rs) in
         record {
           so =
-              rw (t, sound-snoc (length s) (take i all) w (drop first rs), values-snoc s (take i all) w (drop first rs))
+              rw (t, sound-snoc (length s) (take i all) w (drop first rs), entries-snoc s (take i all) w (drop first rs))
               (then (rw m at (p .so)) (before (times (n - (i + 1)) (entry ∷ [])) (rw u at q)));
-          is = let k = rows-snoc (take i all) w in let j = p .is in rw t (omega arith);
+          is = let k = rows-of-snoc (take i all) w in let j = p .is in rw t (omega arith);
         }
 
     pub turns-all : {b : Quill} {o₀ : List ℕ} → i ≡ n → used ≤ first + 255 * i → Moves true (entryCount ∷ []) (times n (entry ∷ [])) b c o₀ o (num n ∷ [])

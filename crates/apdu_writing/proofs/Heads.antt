@@ -1,31 +1,29 @@
 -- A container up to its rows: its kind, and what that kind holds.
 -- Assumes nothing.
-use Prim.Native.Nat.{ℕ, zero, suc, _+_, _-_, _*_, _≤_, _<_}
-use mathlib.Core.Path.{_≡_, refl, ap, sym, _∙_}
-use mathlib.Core.List.{List, [], _∷_, _++_, append-assoc, append-nil}
-use mathlib.Core.Bool.{Bool, true, false, _&&_, _||_, not}
-use mathlib.Core.Logic.{_⊎_, inl, inr}
+use Prim.Native.Nat.{ℕ, suc, _+_, _<_}
+use mathlib.Core.Path.{_≡_, sym, _∙_}
+use mathlib.Core.List.{List, [], _∷_, _++_}
+use mathlib.Core.Bool.{Bool, true, false}
 use native.Mathlib.Omega.{arith}
 use native.Mathlib.Numerals.{add-one}
 use lib.ListN.{length}
 use lib.Dec.{eqb}
-use borrow.Author.Tests.{eqb-true, eqb-false, eq-eqb, ne-eqb}
-use Rattle.refusals.specs.Check.{pick}
-use Rattle.refusals.proofs.Tests.{by-test, by-cases, and-true, and-left, and-right}
+use borrow.Author.Tests.{eqb-true, ne-eqb}
+use Rattle.refusals.proofs.Tests.{by-cases}
 use Rattle.bits.specs.Strings.{isInside}
 use Rattle.apdu_format.specs.Component.{Component, integer, stringForm, idCount, rowCount, container}
 use Rattle.apdu_format.specs.Rules.{content, knownKind, times}
 use Rattle.apdu_format.specs.Reading.{Value}
 use Rattle.apdu_format.proofs.Tests.{never}
-use Rattle.apdu.specs.Values.{num, str, idList, headValues}
+use Rattle.apdu.specs.Values.{num, str, idList, headValues, rowValues}
 use Rattle.apdu_writing.specs.declared.quill.Quill.{Quill}
 use Rattle.apdu.specs.Sound.{partFits, nested}
-use Rattle.apdu_writing.specs.Quill.{Goes, Stops, Moves, Puts, Known}
+use Rattle.apdu_writing.specs.Quill.{Moves, Puts, Known}
 use Rattle.apdu.specs.declared.lists.Row.{Row}
-use Rattle.apdu.specs.Values.{rowValues}
-use Rattle.apdu_writing.specs.declared.container.Due.{Due}
-use Rattle.apdu_writing.specs.Rows.{row, levelOf, afterRow, total, dueList, Opens, Deep, Next}
-use Rattle.apdu_writing.proofs.Dues.{due-front, due-more, due-sums}
+use Rattle.apdu.specs.declared.due.Due.{Due}
+use Rattle.apdu.specs.RowCounters.{row, levelOf, afterRow, total, dueList}
+use Rattle.apdu_writing.specs.Rows.{Opens, Deep, Next}
+use Rattle.apdu.proofs.Dues.{due-front, due-more, due-sums}
 use Rattle.apdu_writing.proofs.Chains.{idle, then, before}
 
 -- what is still in range was so before
@@ -108,11 +106,14 @@ module _ (s : List ℕ) (w : Row) (u : Due) (some : 0 < total u) {level : ℕ} (
       let e : Opens s (levelOf u) (w .kind) (w .n) (w .start) d r o₁ o₂ = rw at at (box .0) in
       rw (due-front u some) (then (before (container (levelOf u) ∷ x) id) (before x e))
 
+  shallow : r .ok ≡ true → levelOf u ≡ 5 → m ≡ 0
+  shallow h five = let k = box .1 .so h in absurd (omega (arith, at, five))
+
   row-due : Moves (partFits (length s) (w .kind) (w .n) (w .start)) (dueList u) (dueList due) c r o o₂ (rowValues s w)
   row-due =
       by-cases (r .ok)
-      (λ h. let k : levelOf u ≤ 4 = rw at at (box .1 .so h) in rw (rest, due-more u m k) row-put)
+      (λ h. rw (rest, due-more u m (shallow h)) row-put)
       (λ h. retarget h row-put)
 
   pub next-by : Next s w u c (record { quill = r; due = due }) o o₂
-  next-by = record { so = row-due; sums = λ h. let k : levelOf u ≤ 4 = rw at at (box .1 .so h) in rw rest (due-sums u m some k) }
+  next-by = record { so = row-due; sums = λ h. rw rest (due-sums u m some (shallow h)) }

@@ -1,19 +1,18 @@
 -- The leading part of each kind, and the components that it brings.
 -- Assumes nothing.
-use Prim.Native.Nat.{ℕ, zero, suc, _+_, _-_, _*_, _^_, _≤_, _<_}
+use Prim.Native.Nat.{ℕ, _+_, _*_, _≤_, _<_}
 use mathlib.Core.Path.{_≡_, refl, ap, sym, _∙_}
-use mathlib.Core.List.{List, [], _∷_, _++_, append-assoc, append-nil}
+use mathlib.Core.List.{List, [], _∷_, _++_}
 use mathlib.Core.Bool.{Bool, true, false, _&&_}
 use native.Mathlib.Omega.{arith}
-use lib.ListN.{length, getD}
-use lib.Dec.{ltb, leb, eqb}
+use lib.Dec.{ltb, eqb}
 use borrow.Author.Tests.{ltb-true, lt-ltb, lt-leb}
-use Rattle.refusals.specs.Check.{pick, firstOf}
+use Rattle.refusals.specs.Check.{firstOf}
 use Rattle.bits.specs.Bits.{writeField}
-use Rattle.apdu_format.specs.Component.{Component, choice, lead, integer, fixed, stringForm, idCount, rowCount, entryCount, container, class}
-use Rattle.apdu_format.specs.Table.{Layout, table, layoutOf}
-use Rattle.apdu_format.specs.Rules.{widths, shape, checksOf, brings, announced, present, when, isSet}
-use Rattle.apdu_format.specs.Reading.{Value, fields, numbersOf, sum}
+use Rattle.apdu_format.specs.Component.{choice, lead, integer}
+use Rattle.apdu_format.specs.Table.{Layout, layoutOf}
+use Rattle.apdu_format.specs.Rules.{widths, shape, checksOf, brings, announced, present, when}
+use Rattle.apdu_format.specs.Reading.{fields, numbersOf, sum}
 use Rattle.apdu_format.specs.Writing.{fits, isValue, fieldsFit}
 use Rattle.apdu.specs.declared.records.Response.{Response}
 use Rattle.apdu.specs.Values.{bitOf, num, num-if, responseValues}
@@ -21,7 +20,7 @@ use Rattle.apdu_writing.specs.declared.quill.Quill.{Quill}
 use Rattle.apdu_writing.specs.Quill.{Put, Moves, Puts, Small}
 use Rattle.apdu_writing.proofs.Leaves.{packed, leaf, in-number}
 use Rattle.apdu_writing.proofs.Chains.{nothing, then, and-then}
-use Rattle.apdu_writing.proofs.Components.{and-unit}
+use Rattle.apdu.proofs.Laws.{and-unit}
 
 choice-range : (k room : ℕ) → k < 10 → true ≡ isValue choice room (fields (k ∷ []))
 unfolding isValue fits shape fieldsFit checksOf firstOf numbersOf

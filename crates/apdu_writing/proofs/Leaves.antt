@@ -1,27 +1,27 @@
 -- One component that the code writes as one field, or as octets.
 -- Assumes nothing.
-use Prim.Native.Nat.{ℕ, zero, suc, _+_, _-_, _*_, _/_, _%_, _^_, _≤_, _<_}
+use Prim.Native.Nat.{ℕ, suc, _+_, _-_, _*_, _^_, _≤_, _<_}
 use mathlib.Core.Path.{_≡_, refl, ap, sym, _∙_}
-use mathlib.Core.List.{List, [], _∷_, _++_, append-assoc, append-nil}
+use mathlib.Core.List.{List, [], _∷_, _++_}
 use mathlib.Core.Bool.{Bool, true, false, _&&_}
-use mathlib.Core.Logic.{_⊎_, inl, inr}
+use mathlib.Core.Logic.{inr}
 use native.Mathlib.Nat.{mul-le-mul-right, suc-mul}
 use native.Mathlib.Omega.{arith}
-use lib.ListN.{length, length-append}
-use lib.Dec.{ltb, leb, eqb}
+use lib.ListN.{length}
+use lib.Dec.{ltb, eqb}
 use lib.Pow.{high, pow-add}
-use borrow.Author.Tests.{ltb-true, ltb-false, le-leb}
-use Rattle.refusals.specs.Check.{pick, firstOf}
-use Rattle.refusals.proofs.Tests.{by-test, by-cases, and-true, and-left, and-right}
-use Rattle.bits.specs.Bits.{Bits, Octets, putBits, digits, fieldFits, writeField}
+use borrow.Author.Tests.{ltb-true, le-leb}
+use Rattle.refusals.specs.Check.{firstOf}
+use Rattle.refusals.proofs.Tests.{and-true}
+use Rattle.bits.specs.Bits.{Bits, putBits, digits, fieldFits, writeField}
 use Rattle.bits.proofs.Laws.{digits-small, length-digits, digits-add, digits-above}
 use Rattle.apdu_format.specs.Component.{Component}
 use Rattle.apdu_format.specs.Rules.{widths, shape, checksOf, brings, announced}
 use Rattle.apdu_format.specs.Reading.{Value, fields, numbersOf, sum}
-use Rattle.apdu_format.specs.Writing.{Pen, bitsOf, fits, isValue, fieldBits, fieldsFit}
+use Rattle.apdu_format.specs.Writing.{bitsOf, fits, isValue, fieldBits, fieldsFit}
 use Rattle.apdu_format.proofs.Tests.{never, both}
 use Rattle.apdu_writing.specs.declared.quill.Quill.{Quill}
-use Rattle.apdu_writing.specs.Quill.{quill, far, least, behind, Put, spent, penAt, writes, Goes, Stops, Moves, Puts}
+use Rattle.apdu_writing.specs.Quill.{quill, least, behind, Put, penAt, writes, Moves}
 use Rattle.apdu_writing.proofs.Levels.{writes-fine, writes-wrong}
 use Rattle.apdu_writing.proofs.Chains.{least-add}
 

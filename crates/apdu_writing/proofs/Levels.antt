@@ -3,11 +3,11 @@
 use Prim.Native.Nat.{ℕ, zero, suc, _-_, _≤_}
 use mathlib.Core.Path.{_≡_, refl, ap, sym, _∙_}
 use mathlib.Core.List.{List, [], _∷_, _++_}
-use mathlib.Core.Bool.{Bool, true, false, _&&_}
+use mathlib.Core.Bool.{true, false}
 use native.Mathlib.Omega.{arith}
 use lib.Dec.{eqb}
 use borrow.Author.Tests.{eqb-true}
-use Rattle.refusals.specs.Check.{pick, firstOf}
+use Rattle.refusals.specs.Check.{firstOf}
 use Rattle.refusals.proofs.Tests.{by-test}
 use Rattle.apdu_format.specs.Component.{Component}
 use Rattle.apdu_format.specs.Rules.{shape, checksOf, brings, announced}

@@ -5,7 +5,6 @@ pub mod Leaves
 pub mod Components
 pub mod Counts
 pub mod Heads
-pub mod Dues
 pub mod RowLists
 pub mod Boxes
 pub mod Leads

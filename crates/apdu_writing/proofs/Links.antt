@@ -1,37 +1,35 @@
 -- BST and VST: their leading parts, numbers of two and four octets, configuration, and lists of applications.
 -- Assumes nothing.
-use Prim.Native.Nat.{ℕ, zero, suc, _+_, _-_, _*_, _^_, _≤_, _<_}
-use mathlib.Core.Path.{_≡_, refl, ap, sym, _∙_}
-use mathlib.Core.List.{List, [], _∷_, _++_, append-assoc, append-nil}
+use Prim.Native.Nat.{ℕ, _+_, _*_}
+use mathlib.Core.Path.{_≡_, refl, sym, _∙_}
+use mathlib.Core.List.{List, [], _∷_, _++_}
 use mathlib.Core.Bool.{Bool, true, false, _&&_, not}
 use native.Mathlib.Omega.{arith}
 use lib.ListN.{length, take, drop}
-use lib.Seq.{take-nil, take-take}
-use lib.Dec.{ltb, eqb}
+use lib.Dec.{ltb}
 use borrow.Author.Tests.{ltb-true, not-true, not-false}
-use Rattle.refusals.specs.Check.{pick, firstOf}
-use Rattle.refusals.proofs.Tests.{and-true}
+use Rattle.refusals.specs.Check.{firstOf}
 use Rattle.bits.specs.Bits.{writeField}
 use Rattle.bits.specs.Strings.{isInside}
-use Rattle.apdu_format.specs.Component.{Component, lead, integer, fixed, class, entryCount, idCount}
-use Rattle.apdu_format.specs.Table.{Layout, layoutOf}
-use Rattle.apdu_format.specs.Rules.{widths, shape, checksOf, brings, announced, present, when, isSet}
-use Rattle.apdu_format.specs.Reading.{Value, fields, numbersOf, sum}
+use Rattle.apdu_format.specs.Component.{lead, integer, fixed, class, entryCount, idCount}
+use Rattle.apdu_format.specs.Table.{layoutOf}
+use Rattle.apdu_format.specs.Rules.{shape, checksOf, brings, announced, present, when, isSet}
+use Rattle.apdu_format.specs.Reading.{fields, numbersOf, sum}
 use Rattle.apdu_format.specs.Writing.{fits, isValue, fieldsFit}
-use Rattle.apdu_format.proofs.Tests.{never, both}
+use Rattle.apdu_format.proofs.Tests.{both}
 use Rattle.apdu.specs.declared.lists.Row.{Row}
 use Rattle.apdu.specs.declared.lists.Entry.{Entry}
 use Rattle.apdu.specs.declared.records.Bst.{Bst}
 use Rattle.apdu.specs.declared.records.Vst.{Vst}
-use Rattle.apdu.specs.Values.{bitOf, num, if, idList, entryValues, entriesValues, rowsOf, bstValues, vstValues}
+use Rattle.apdu.specs.Values.{bitOf, num, if, idList, entriesValues, rowsOf, bstValues, vstValues}
+use Rattle.apdu.proofs.Laws.{and-unit, own-values, own-sound}
 use Rattle.apdu_writing.specs.declared.quill.Quill.{Quill}
 use Rattle.apdu_writing.specs.declared.entries.EntriesPut.{EntriesPut}
-use Rattle.apdu.specs.Sound.{soundIf, entrySound, entriesSound, bstSound, vstSound}
+use Rattle.apdu.specs.Sound.{soundIf, entriesSound, bstSound, vstSound}
 use Rattle.apdu_writing.specs.Quill.{Put, Moves, Puts, Small}
 use Rattle.apdu_writing.specs.Applications.{Listed}
-use Rattle.apdu_writing.proofs.Chains.{nothing, idle, then, and-then, before}
+use Rattle.apdu_writing.proofs.Chains.{nothing, idle, then, and-then}
 use Rattle.apdu_writing.proofs.Leaves.{packed, leaf, in-number}
-use Rattle.apdu_writing.proofs.Components.{and-unit}
 use Rattle.apdu_writing.proofs.Leads.{lead-by, is-set, bit-fits}
 
 -- ---- numbers of whole octets
@@ -83,31 +81,6 @@ module _ (p : Bool) (n : ℕ) where
       → Puts true (when p (fixed 2 ∷ [])) e r o₂ o₃ (if p (fields (status ∷ []) ∷ []))
       → Puts true (class ∷ []) c r o o₃ (fields (bitOf p ∷ n ∷ []) ∷ fields (maker ∷ []) ∷ if p (fields (status ∷ []) ∷ []))
   configuration-by maker status q f m a b = then (class-lead q f m) (and-then a b)
-
--- ---- the rows of a list of entries
-
-drop-take : (n k m : ℕ) (l : List Row) → m ≡ n + k → drop n (take m l) ≡ take k (drop n l)
-drop-take zero k m l e = let h : m ≡ k = omega arith in ap (λ (i : ℕ). take i l) h
-drop-take (suc n) k zero l e = absurd (omega arith)
-drop-take (suc n) k (suc m) [] e = sym (take-nil k)
-drop-take (suc n) k (suc m) (x ∷ l) e = drop-take n k m l (omega arith)
-
--- entries look at their own rows only
-own-values : (s : List ℕ) (es : List Entry) (rs : List Row) → entriesValues s es rs ≡ entriesValues s es (take (rowsOf es) rs)
-unfolding entriesValues rowsOf
-own-values s [] rs = refl
-own-values s (e ∷ es) rs =
-    ap (λ (l : List Row). entryValues s e l ++ entriesValues s es (drop (e .rows) rs)) (sym (take-take (e .rows) (e .rows + rowsOf es) rs (omega arith)))
-    ∙ ap (λ (l : List Value). entryValues s e (take (e .rows) (take (e .rows + rowsOf es) rs)) ++ l)
-    (own-values s es (drop (e .rows) rs) ∙ ap (entriesValues s es) (sym (drop-take (e .rows) (rowsOf es) (e .rows + rowsOf es) rs refl)))
-
-own-sound : (n : ℕ) (es : List Entry) (rs : List Row) → entriesSound n es rs ≡ entriesSound n es (take (rowsOf es) rs)
-unfolding entriesSound rowsOf
-own-sound n [] rs = refl
-own-sound n (e ∷ es) rs =
-    ap (λ (l : List Row). entrySound n e l && entriesSound n es (drop (e .rows) rs)) (sym (take-take (e .rows) (e .rows + rowsOf es) rs (omega arith)))
-    ∙ ap (λ (b : Bool). entrySound n e (take (e .rows) (take (e .rows + rowsOf es) rs)) && b)
-    (own-sound n es (drop (e .rows) rs) ∙ ap (entriesSound n es) (sym (drop-take (e .rows) (rowsOf es) (e .rows + rowsOf es) rs refl)))
 
 -- ---- VST
 

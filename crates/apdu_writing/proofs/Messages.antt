@@ -1,19 +1,19 @@
 -- The messages behind their choice: a leading part of four bits, and then the components in Annex A's order.
 -- Assumes nothing.
-use Prim.Native.Nat.{ℕ, _+_, _*_, _<_}
-use mathlib.Core.Path.{_≡_, refl, ap, sym, _∙_}
+use Prim.Native.Nat.{ℕ, _+_, _*_}
+use mathlib.Core.Path.{_≡_, refl, ap, _∙_}
 use mathlib.Core.List.{List, [], _∷_, _++_}
-use mathlib.Core.Bool.{Bool, true, false, _&&_}
+use mathlib.Core.Bool.{true}
 use native.Mathlib.Omega.{arith}
 use lib.ListN.{length, take}
 use lib.Dec.{ltb}
 use borrow.Author.Tests.{ltb-true}
 use Rattle.bits.specs.Bits.{writeField}
 use Rattle.bits.specs.Strings.{isInside}
-use Rattle.apdu_format.specs.Component.{Component, lead, integer, stringForm, idCount, rowCount, container}
+use Rattle.apdu_format.specs.Component.{lead, integer, stringForm, idCount, rowCount, container}
 use Rattle.apdu_format.specs.Table.{Layout, layoutOf}
 use Rattle.apdu_format.specs.Rules.{present, when}
-use Rattle.apdu_format.specs.Reading.{Value, fields}
+use Rattle.apdu_format.specs.Reading.{fields}
 use Rattle.apdu.specs.declared.lists.Row.{Row}
 use Rattle.apdu.specs.declared.records.Request.{Request}
 use Rattle.apdu.specs.declared.records.ActionResponse.{ActionResponse}
@@ -25,7 +25,7 @@ use Rattle.apdu_writing.specs.declared.quill.Quill.{Quill}
 use Rattle.apdu_writing.specs.Quill.{Put, Moves, Puts, Small}
 use Rattle.apdu.specs.Sound.{soundIf, rowsSound, containerSound, requestSound, actionResponseSound, setRequestSound, getRequestSound, getResponseSound}
 use Rattle.apdu_writing.proofs.Chains.{nothing, then, and-then}
-use Rattle.apdu_writing.proofs.Components.{and-unit}
+use Rattle.apdu.proofs.Laws.{and-unit}
 use Rattle.apdu_writing.proofs.Leads.{nibble, bits-and, bits-fill, bits-fill-mode, is-set}
 
 -- ---- request

@@ -2,9 +2,9 @@
 -- refuses nothing, the octets that it leaves at the output's front are read, to their end, as the values of the record.
 -- Assumes nothing.
 use Prim.Native.Nat.{ℕ, _≤_}
-use mathlib.Core.Path.{_≡_, sym, _∙_}
+use mathlib.Core.Path.{_≡_}
 use mathlib.Core.List.{List}
-use mathlib.Core.Bool.{true, false}
+use mathlib.Core.Bool.{true}
 use native.Mathlib.Omega.{arith}
 use lib.ListN.{length}
 use lib.Dec.{ltb}
@@ -19,9 +19,8 @@ use Rattle.apdu.specs.declared.lists.Row.{Row}
 use Rattle.apdu.specs.declared.lists.Entry.{Entry}
 use Rattle.apdu.specs.declared.records.Message.{Message}
 use Rattle.apdu.specs.Values.{valuesOf}
-use Rattle.apdu.specs.Sound.{sound}
+use Rattle.apdu.specs.Sound.{sound, wellFormed}
 use Rattle.apdu_writing.specs.Answer.{writeRefusal}
-use Rattle.apdu.specs.Sound.{wellFormed}
 use Rattle.apdu_writing.proofs.Answers.{refusal-23, refusal-21}
 
 module _ (s : List ℕ) (m : Message) (es : List Entry) (rs : List Row) (out : List ℕ) (none : writeRefusal s m es rs (length out) ≡ 0) where

@@ -1,9 +1,9 @@
 -- Attribute rows one after the other, and when they are all that were announced.
 -- Assumes nothing.
-use Prim.Native.Nat.{ℕ, zero, suc, _+_, _-_, _*_, _≤_, _<_}
+use Prim.Native.Nat.{ℕ, suc, _+_, _-_, _≤_, _<_}
 use mathlib.Core.Path.{_≡_, refl, ap, sym, _∙_}
-use mathlib.Core.List.{map, List, [], _∷_, _++_, append-assoc, append-nil}
-use mathlib.Core.Bool.{Bool, true, false, _&&_, not}
+use mathlib.Core.List.{map, List, [], _∷_, _++_, append-assoc}
+use mathlib.Core.Bool.{Bool, true, false, _&&_}
 use mathlib.Core.Logic.{_⊎_, inl, inr}
 use native.Mathlib.Omega.{arith}
 use native.Mathlib.Numerals.{add-one}
@@ -11,32 +11,27 @@ use lib.ListN.{length-map, length-take, length, take, drop, getD, take-append-dr
 use lib.Seq.{take-suc, drop-cons, take-all, length-take-le, getD-take, getD-drop}
 use lib.Dec.{eqb, ltb}
 use borrow.Author.Tests.{eqb-true, eqb-false, eq-eqb, ne-eqb, ltb-true, ltb-false, lt-ltb, le-ltb}
-use Rattle.refusals.specs.Check.{pick}
 use Rattle.refusals.proofs.Tests.{by-test, by-cases, and-true, and-left, and-right}
 use Rattle.apdu_format.specs.Component.{Component}
 use Rattle.apdu_format.specs.Reading.{Value}
 use Rattle.apdu_format.proofs.Tests.{never}
 use Rattle.apdu.specs.declared.lists.Row.{Row}
-use Rattle.apdu.specs.Values.{rowValues, rowsValues, emptyRow}
+use Rattle.apdu.specs.Values.{rowsValues, emptyRow}
+use Rattle.apdu.proofs.Laws.{drop-all, rows-append, rows-snoc, fit-append, fit-snoc, closes-more}
 use Rattle.apdu_writing.specs.declared.quill.Quill.{Quill}
-use Rattle.apdu_writing.specs.declared.container.Due.{Due}
+use Rattle.apdu.specs.declared.due.Due.{Due}
 use Rattle.apdu_writing.specs.declared.container.RowPut.{RowPut}
-use Rattle.apdu.specs.Sound.{partFits, nested, partsFit, closes, rowsSound}
-use Rattle.apdu_writing.specs.Quill.{quill, Goes, Stops, Moves, Puts, halted, clampedTo}
-use Rattle.apdu_writing.specs.Rows.{total, dueList, Next}
+use Rattle.apdu.specs.Sound.{partsFit, closes, rowsSound}
+use Rattle.apdu_writing.specs.Quill.{quill, Stops, Moves, Puts, halted, clampedTo}
+use Rattle.apdu.specs.RowCounters.{total, dueList}
+use Rattle.apdu_writing.specs.Rows.{Next}
 use Rattle.apdu_writing.proofs.Chains.{nothing, then}
 use Rattle.apdu_writing.proofs.Heads.{clean}
-use Rattle.apdu_writing.proofs.Dues.{due-none}
+use Rattle.apdu.proofs.Dues.{due-none}
 
 -- an array of structs is as long as its values
 pub long : (A B : Type 0) (f : A → B) (l : List A) (n : ℕ) → length (map f l) ≡ n → length l ≡ n
 long A B f l n e = sym (length-map l f) ∙ e
-
-drop-all : (i : ℕ) (l : List Row) → length l ≤ i → drop i l ≡ []
-drop-all zero [] h = refl
-drop-all zero (x ∷ l) h = absurd (omega arith)
-drop-all (suc i) [] h = refl
-drop-all (suc i) (x ∷ l) h = drop-all i l (omega arith)
 
 -- ---- how many
 
@@ -121,43 +116,6 @@ resound {s} {is} {js} {c} {r} {o} {o'} {vs} t p f g =
     judged (inl x) = inl (g x)
     judged (inr x) = inr x
 
--- ---- rows, one more
-
-values-append : (s : List ℕ) (xs ys : List Row) → rowsValues s (xs ++ ys) ≡ rowsValues s xs ++ rowsValues s ys
-unfolding rowsValues
-values-append s [] ys = refl
-values-append s (x ∷ xs) ys = ap (λ (l : List Value). rowValues s x ++ l) (values-append s xs ys) ∙ sym (append-assoc (rowValues s x) (rowsValues s xs) (rowsValues s ys))
-
-values-snoc : (s : List ℕ) (xs : List Row) (w : Row) → rowsValues s (xs ++ (w ∷ [])) ≡ rowsValues s xs ++ rowValues s w
-unfolding rowsValues
-values-snoc s xs w = values-append s xs (w ∷ []) ∙ ap (λ (l : List Value). rowsValues s xs ++ l) (append-nil (rowValues s w))
-
-and-assoc : (a b c : Bool) → ((a && b) && c) ≡ (a && (b && c))
-and-assoc true b c = refl
-and-assoc false b c = refl
-
-fit-append : (n : ℕ) (xs ys : List Row) → partsFit n (xs ++ ys) ≡ (partsFit n xs && partsFit n ys)
-unfolding partsFit
-fit-append n [] ys = refl
-fit-append n (x ∷ xs) ys =
-    ap (λ (b : Bool). partFits n (x .kind) (x .n) (x .start) && b) (fit-append n xs ys)
-    ∙ sym (and-assoc (partFits n (x .kind) (x .n) (x .start)) (partsFit n xs) (partsFit n ys))
-
-fit-snoc : (n : ℕ) (xs : List Row) (w : Row) → partsFit n (xs ++ (w ∷ [])) ≡ (partsFit n xs && partFits n (w .kind) (w .n) (w .start))
-unfolding partsFit
-fit-snoc n xs w = fit-append n xs (w ∷ []) ∙ ap (λ (b : Bool). partsFit n xs && b) (unit (partFits n (w .kind) (w .n) (w .start)))
-  where
-    unit : (b : Bool) → (b && true) ≡ b
-    unit true = refl
-    unit false = refl
-
-closes-more : (n : ℕ) (w : Row) (rs : List Row) (k : ℕ) → (n ≡ 0 → ⊥) → k + 1 ≡ n + nested (w .kind) (w .n) → closes n (w ∷ rs) ≡ closes k rs
-unfolding closes
-closes-more n w rs k h e =
-    let m : n ≡ suc (n - 1) = omega (arith, h) in
-    let f : nested (w .kind) (w .n) + (n - 1) ≡ k = omega (arith, h) in
-    ap (λ (i : ℕ). closes i (w ∷ rs)) m ∙ ap (λ (i : ℕ). closes i rs) f
-
 closes-short : (n : ℕ) → (n ≡ 0 → ⊥) → closes n [] ≡ false
 unfolding closes
 closes-short n h = let m : n ≡ suc (n - 1) = omega (arith, h) in ap (λ (i : ℕ). closes i []) m
@@ -182,7 +140,7 @@ module _ (s : List ℕ) (all : List Row) where
         let f : drop i all ≡ w ∷ drop (i + 1) all =
         drop-cons all i emptyRow h ∙ ap (λ (x : Row). x ∷ drop (suc i) all) (sym e) ∙ ap (λ (k : ℕ). w ∷ drop k all) (sym (add-one i)) in
         record {
-          so = rw (t, fit-snoc (length s) (take i all) w, values-snoc s (take i all) w) (then (p .so) (q .so));
+          so = rw (t, fit-snoc (length s) (take i all) w, rows-snoc s (take i all) w) (then (p .so) (q .so));
           counts = λ g.
               p .counts (clean (q .so) g) ∙ ap (closes (total v)) f ∙ closes-more (total v) w (drop (i + 1) all) (total (r .due)) some (q .sums g);
         }
@@ -200,7 +158,7 @@ module _ (s : List ℕ) (all : List Row) where
         early (inl x) =
             inl (and-left (closes (total u) all) (ap (partsFit (length s)) (sym split) ∙ fit-append (length s) (take i all) (drop i all) ∙ and-left (partsFit (length s) (drop i all)) x))
         early (inr x) =
-            let e : rowsValues s all ≡ rowsValues s (take i all) ++ rowsValues s (drop i all) = ap (rowsValues s) (sym split) ∙ values-append s (take i all) (drop i all) in
+            let e : rowsValues s all ≡ rowsValues s (take i all) ++ rowsValues s (drop i all) = ap (rowsValues s) (sym split) ∙ rows-append s (take i all) (drop i all) in
             inr (record { so = λ rest b. rw (e, append-assoc (rowsValues s (take i all)) (rowsValues s (drop i all)) rest) (x .so (rowsValues s (drop i all) ++ rest) b) })
 
     pub run-over : i < length all → total v ≡ 0 → {r : Quill} → r ≡ halted d → Puts (rowsSound (length s) (total u) all) (dueList u) c r o o₁ (rowsValues s all)

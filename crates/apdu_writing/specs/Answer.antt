@@ -1,11 +1,11 @@
 -- What writing a message answers and leaves in the output (01, "Messages": "Writing checks 23, 21, 22"; refusal table, rows 21 to 23).
 -- Assumes nothing.
-use Prim.Native.Nat.{ℕ, _*_}
+use Prim.Native.Nat.{ℕ}
 use mathlib.Core.List.{List, [], _∷_, _++_}
 use mathlib.Core.Bool.{not}
 use lib.ListN.{length, drop}
 use lib.Dec.{ltb, eqb}
-use Rattle.refusals.specs.Check.{pick, Check, check, firstOf}
+use Rattle.refusals.specs.Check.{pick, check, firstOf}
 use Rattle.apdu_format.specs.Limits.{longestMessage}
 use Rattle.apdu_format.specs.Writing.{size, encodedOctets}
 use Rattle.apdu.specs.declared.lists.Row.{Row}

@@ -1,16 +1,20 @@
-// Containers up to their attribute rows, and the depth at which the next row stands.
+// Containers up to their attribute rows, and the next row.
 ghost use mathlib.Core.Path.{_≡_};
 ghost use mathlib.Core.List.{[], _∷_};
-ghost use Prim.Native.Nat.{_-_, _<_, _≤_};
-ghost use Rattle.apdu.specs.Sound.{nested};
-ghost use Rattle.apdu_writing.specs.Rows.{levelOf, afterRow, total, Opens, Next, Deep};
+ghost use Prim.Native.Nat.{_<_, _≤_};
+ghost use Rattle.apdu.specs.RowCounters.{total};
+ghost use Rattle.apdu_writing.specs.Rows.{Opens, Next, Deep};
 use crate::component::number;
 use crate::component::string;
 use crate::counted::ids;
 use crate::counted::kind;
 use crate::counted::row_count;
 use crate::quill::Quill;
+use apdu::Due;
 use apdu::Row;
+use apdu::after_row;
+use apdu::announces;
+use apdu::level;
 
 // A container of kind k at the given depth, without its rows.
 pub(crate) fn head(
@@ -36,96 +40,6 @@ pub(crate) fn head(
         return ids(lent, start, n, out, d);
     }
     row_count(depth + 1, n, out, d)
-}
-
-// How many rows a container announces.
-pub(crate) fn announces(kind: u64, n: u64) -> u64
-    ensures { λ r. ⌜ r ≡ nested kind n ⌝ }
-{
-    if kind == apdu::ATTRIBUTE_LIST { n } else { 0 }
-}
-
-// How many rows are still to come in the list whose containers stand at depth 1, 2, .. 5.
-pub struct Due {
-    pub d1: u64,
-    pub d2: u64,
-    pub d3: u64,
-    pub d4: u64,
-    pub d5: u64,
-}
-
-// The depth of the next row's container: that of the innermost list with rows to come.
-pub(crate) fn level(u: Due) -> usize
-    ensures { λ r. ⌜ (r ≡ levelOf u) × (r ≤ 5) ⌝ }
-{
-    if u.d5 != 0 {
-        return 5;
-    }
-    if u.d4 != 0 {
-        return 4;
-    }
-    if u.d3 != 0 {
-        return 3;
-    }
-    if u.d2 != 0 {
-        return 2;
-    }
-    1
-}
-
-fn less(n: u64) -> u64
-    ensures { λ r. ⌜ r ≡ n - 1 ⌝ }
-{
-    if n == 0 { 0 } else { n - 1 }
-}
-
-// What is due after one row, whose container announces n rows.
-pub(crate) fn after_row(u: Due, n: u64) -> Due
-    ensures { λ r. ⌜ r ≡ afterRow u n ⌝ }
-{
-    if u.d5 != 0 {
-        return Due {
-            d1: u.d1,
-            d2: u.d2,
-            d3: u.d3,
-            d4: u.d4,
-            d5: less(u.d5),
-        };
-    }
-    if u.d4 != 0 {
-        return Due {
-            d1: u.d1,
-            d2: u.d2,
-            d3: u.d3,
-            d4: less(u.d4),
-            d5: n,
-        };
-    }
-    if u.d3 != 0 {
-        return Due {
-            d1: u.d1,
-            d2: u.d2,
-            d3: less(u.d3),
-            d4: n,
-            d5: 0,
-        };
-    }
-    if u.d2 != 0 {
-        return Due {
-            d1: u.d1,
-            d2: less(u.d2),
-            d3: n,
-            d4: 0,
-            d5: 0,
-        };
-    }
-    Due {
-        d1: less(u.d1),
-        d2: n,
-        d3: 0,
-        d4: 0,
-        d5: 0,
-    }
 }
 
 pub struct RowPut {

@@ -6,12 +6,13 @@ ghost use Prim.Native.Nat.{_*_, _+_, _/_, _<_, _≤_};
 ghost use lib.ListN.{length};
 ghost use Rattle.bits.specs.Strings.{isInside};
 ghost use Rattle.apdu_format.specs.Component.{integer, idCount, listStart, rowCount, entryCount, entry, container};
-ghost use Rattle.apdu_format.specs.Rules.{content, knownKind, times};
+ghost use Rattle.apdu_format.specs.Rules.{content, times};
 ghost use Rattle.apdu.specs.Values.{num, idAt, idList};
 ghost use Rattle.apdu_writing.specs.Quill.{Moves, Puts, Few, Known};
 use crate::quill::Quill;
 use crate::quill::put;
 use crate::quill::spend;
+use apdu::known;
 
 // A count of ids.
 pub(crate) fn id_count(n: u64, out: &mut [u8], c: Quill) -> Quill
@@ -33,16 +34,6 @@ pub(crate) fn row_count(depth: usize, n: u64, out: &mut [u8], c: Quill) -> Quill
 {
     let few = (n <= apdu::MOST_COUNTED) & (n <= c.room);
     spend(n, put(out, 8, n, few, c))
-}
-
-// Whether a container kind is written here.
-pub(crate) fn known(kind: u64) -> bool
-    ensures { λ r. ⌜ r ≡ knownKind kind ⌝ }
-{
-    (kind == apdu::OCTET_STRING)
-        | (kind == apdu::DSRC_EID)
-        | (kind == apdu::ATTRIBUTE_ID_LIST)
-        | (kind == apdu::ATTRIBUTE_LIST)
 }
 
 // The kind of a container at the given depth.

@@ -9,14 +9,14 @@ ghost use Rattle.bits.specs.Strings.{isInside};
 ghost use Rattle.apdu.specs.Values.{num, if, idList, containerValues, rowsValues};
 ghost use Rattle.apdu_writing.specs.Quill.{Puts};
 ghost use Rattle.apdu.specs.Sound.{soundIf, rowsSound, containerSound};
-use crate::container::Due;
-use crate::container::announces;
 use crate::container::head;
 use crate::counted::ids;
 use crate::counted::row_count;
 use crate::quill::Quill;
 use crate::rows::rows;
+use apdu::Due;
 use apdu::Row;
+use apdu::announces;
 
 // A container at depth 1 with the `count` rows of the table from `first` on.
 pub(crate) fn boxed(

@@ -5,11 +5,11 @@ ghost use lib.ListN.{length, take, drop};
 ghost use lib.Dec.{eqb};
 ghost use Rattle.apdu.specs.Values.{rowsValues};
 ghost use Rattle.apdu_writing.specs.Quill.{Puts, clampedTo, halted};
-ghost use Rattle.apdu_writing.specs.Rows.{total, dueList};
+ghost use Rattle.apdu.specs.RowCounters.{total, dueList};
 ghost use Rattle.apdu.specs.Sound.{rowsSound};
-use crate::container::Due;
 use crate::container::next_row;
 use crate::quill::Quill;
+use apdu::Due;
 use apdu::Row;
 
 // Whether no row is due.

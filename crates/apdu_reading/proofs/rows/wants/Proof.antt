@@ -1,7 +1,6 @@
 -- The tests of the definition.
 -- Assumes nothing.
 use borrow.Author.Tests.{eq-eqb, ne-eqb}
-use Prim.Native.Nat.{_-_}
 use Rattle.apdu_reading.proofs.Fill.{none-wanted}
 use native.Mathlib.Omega.{arith}
 use Rattle.apdu_reading.proofs.rows.wants.Statement.{statement}

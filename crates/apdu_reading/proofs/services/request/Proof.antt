@@ -31,7 +31,7 @@ string-if-requires : tie.Need-string-if-requires
 string-if-requires c κs = c .before .before .before .before .before .before .before .before .pre .0
 
 parameter-requires : tie.Need-parameter-requires
-parameter-requires c κs = (c .before .before .before .before .before .before .before .before .before .pre .0, c .string-if .ensures .room ∙ integer-room _ _ (c .before .integer2 .ensures .0) ∙ room-after _ _ (c .before .before .before .before .before .before .before .before .before .pre .1) (c .before .before .before .before .before .before .before .piece .ensures .0) (c .before .before .integer .ensures))
+parameter-requires c κs = (c .before .before .before .before .before .before .before .before .before .pre .0, c .string-if .ensures .0 .room ∙ integer-room _ _ (c .before .integer2 .ensures .0) ∙ room-after _ _ (c .before .before .before .before .before .before .before .before .before .pre .1) (c .before .before .before .before .before .before .before .piece .ensures .0) (c .before .before .integer .ensures))
 
 integer-if-requires : tie.Need-integer-if-requires
 integer-if-requires c κs = c .before .before .before .before .before .before .before .before .before .before .before .before .pre .0

@@ -27,7 +27,7 @@ string-if-requires : tie.Need-string-if-requires
 string-if-requires c κs = c .before .before .before .before .before .before .before .pre .0
 
 attribute-list-requires : tie.Need-attribute-list-requires
-attribute-list-requires c κs = (c .before .before .before .before .before .before .before .before .pre .0, c .string-if .ensures .room ∙ room-after _ _ (c .before .before .before .before .before .before .before .before .pre .1) (c .before .before .before .before .before .before .piece .ensures .0) (c .before .integer .ensures))
+attribute-list-requires c κs = (c .before .before .before .before .before .before .before .before .pre .0, c .string-if .ensures .0 .room ∙ room-after _ _ (c .before .before .before .before .before .before .before .before .pre .1) (c .before .before .before .before .before .before .piece .ensures .0) (c .before .integer .ensures))
 
 integer-if-requires : tie.Need-integer-if-requires
 integer-if-requires c κs = c .before .before .before .before .before .before .before .before .before .before .before .pre .0

@@ -1,7 +1,6 @@
 -- `spend` takes off what is there.
 -- Assumes nothing.
 use mathlib.Core.Path.{refl}
-use native.Mathlib.Omega.{arith}
 use Rattle.apdu_writing.specs.Quill.{spent}
 use Rattle.apdu_writing.proofs.Quills.{spent-all}
 use Rattle.apdu_writing.proofs.quill.spend.Statement.{statement}

@@ -1,8 +1,8 @@
 -- The kind decides.
 -- Assumes nothing.
 use borrow.Author.Tests.{eq-eqb, ne-eqb}
-use Rattle.apdu_reading.proofs.container.announces.Statement.{statement}
-use Rattle.apdu_reading.proofs.container.announces.Tie as tie
+use Rattle.apdu.proofs.due.announces.Statement.{statement}
+use Rattle.apdu.proofs.due.announces.Tie as tie
 
 returns : tie.Need-returns
 returns c = simp (eq-eqb _ _ (c .if1 .taken))

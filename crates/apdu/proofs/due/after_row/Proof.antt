@@ -1,9 +1,9 @@
 -- The tests of `afterRow`, innermost first.
 -- Assumes nothing.
 use borrow.Author.Tests.{eq-eqb, ne-eqb}
-use Rattle.apdu_reading.specs.Rows.{afterRow}
-use Rattle.apdu_reading.proofs.container.after_row.Statement.{statement}
-use Rattle.apdu_reading.proofs.container.after_row.Tie as tie
+use Rattle.apdu.specs.RowCounters.{afterRow}
+use Rattle.apdu.proofs.due.after_row.Statement.{statement}
+use Rattle.apdu.proofs.due.after_row.Tie as tie
 
 less-requires : tie.Need-less-requires
 less-requires c κs = tt

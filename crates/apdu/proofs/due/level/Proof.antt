@@ -1,10 +1,10 @@
 -- The tests of `levelOf`, innermost first.
 -- Assumes nothing.
 use borrow.Author.Tests.{eq-eqb, ne-eqb}
-use Rattle.apdu_reading.specs.Rows.{levelOf}
+use Rattle.apdu.specs.RowCounters.{levelOf}
 use native.Mathlib.Omega.{arith}
-use Rattle.apdu_reading.proofs.container.level.Statement.{statement}
-use Rattle.apdu_reading.proofs.container.level.Tie as tie
+use Rattle.apdu.proofs.due.level.Statement.{statement}
+use Rattle.apdu.proofs.due.level.Tie as tie
 
 returns : tie.Need-returns
 unfolding levelOf

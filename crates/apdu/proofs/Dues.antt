@@ -1,18 +1,16 @@
 -- The rows that are due: the next one, and what is due behind it.
 -- Assumes nothing.
-use Prim.Native.Nat.{ℕ, zero, suc, _+_, _-_, _*_, _≤_, _<_}
-use mathlib.Core.Path.{_≡_, refl, ap, sym, _∙_}
-use mathlib.Core.List.{List, [], _∷_, _++_, append-assoc, append-nil}
-use mathlib.Core.Bool.{Bool, true, false, _&&_}
+use Prim.Native.Nat.{ℕ, suc, _+_, _-_, _<_}
+use mathlib.Core.Path.{_≡_, refl, ap, _∙_}
+use mathlib.Core.List.{List, [], _++_, append-assoc, append-nil}
 use native.Mathlib.Omega.{arith}
 use lib.Dec.{eqb}
 use borrow.Author.Tests.{eqb-true, eqb-false}
-use Rattle.refusals.specs.Check.{pick}
 use Rattle.refusals.proofs.Tests.{by-cases}
 use Rattle.apdu_format.specs.Component.{Component}
 use Rattle.apdu_format.specs.Rules.{times}
-use Rattle.apdu_writing.specs.declared.container.Due.{Due}
-use Rattle.apdu_writing.specs.Rows.{row, levelOf, afterRow, total, dueList}
+use Rattle.apdu.specs.declared.due.Due.{Due}
+use Rattle.apdu.specs.RowCounters.{row, levelOf, afterRow, total, dueList}
 
 times-more : (n : ℕ) (is : List Component) → (n ≡ 0 → ⊥) → times n is ≡ is ++ times (n - 1) is
 unfolding times
@@ -62,7 +60,7 @@ module _ (u : Due) where
       (λ a5. rw a5 (first-more (u .d5) 5 l4 (eqb-false (u .d5) 0 a5)))
 
   -- what is due behind a row that announces n rows
-  pub due-more : (n : ℕ) → levelOf u ≤ 4 → More u n
+  pub due-more : (n : ℕ) → (levelOf u ≡ 5 → n ≡ 0) → More u n
   unfolding dueList levelOf afterRow times
   due-more n =
       by-cases (eqb (u .d5) 0)
@@ -76,9 +74,9 @@ module _ (u : Due) where
       (λ a2 h. rw (a5, a4, a3, a2)))
       (λ a3 h. rw (a5, a4, a3)))
       (λ a4 h. rw (a5, a4)))
-      (λ a5 h. absurd (omega (arith, rw a5 at h)))
+      (λ a5 h. rw (a5, h (rw a5)))
 
-  pub due-sums : (n : ℕ) → 0 < total u → levelOf u ≤ 4 → Sums u n
+  pub due-sums : (n : ℕ) → 0 < total u → (levelOf u ≡ 5 → n ≡ 0) → Sums u n
   unfolding levelOf afterRow
   due-sums n h =
       by-cases (eqb (u .d5) 0)
@@ -104,7 +102,11 @@ module _ (u : Due) where
       let e4 = eqb-false (u .d4) 0 a4 in
       let e : afterRow u n ≡ record { d1 = u .d1; d2 = u .d2; d3 = u .d3; d4 = u .d4 - 1; d5 = n } = rw (a5, a4) in
       sums e (omega (arith, e4))))
-      (λ a5 k. absurd (omega (arith, rw a5 at k)))
+      (λ a5 k.
+      let e5 = eqb-false (u .d5) 0 a5 in
+      let z : n ≡ 0 = k (rw a5) in
+      let e : afterRow u n ≡ record { d1 = u .d1; d2 = u .d2; d3 = u .d3; d4 = u .d4; d5 = u .d5 - 1 } = rw a5 in
+      sums e (omega (arith, e5)))
     where
       sums : {v w : Due} → v ≡ w → total w + 1 ≡ total u + n → total v + 1 ≡ total u + n
       sums e m = rw e m
@@ -119,3 +121,26 @@ module _ (u : Due) where
       let e2 : u .d2 ≡ 0 = omega arith in
       let e1 : u .d1 ≡ 0 = omega arith in
       rw (e5, e4, e3, e2, e1)
+
+-- ---- one list alone
+
+-- the n rows of a container at depth 1, and those of a message's own list
+abbrev pub two : ℕ → Due
+two n = record { d1 = 0; d2 = n; d3 = 0; d4 = 0; d5 = 0 }
+
+abbrev pub one : ℕ → Due
+one n = record { d1 = n; d2 = 0; d3 = 0; d4 = 0; d5 = 0 }
+
+pub due-two : (n : ℕ) → dueList (two n) ≡ times n (row 2)
+unfolding dueList times
+due-two n = append-nil (times n (row 2))
+
+pub due-one : (n : ℕ) → dueList (one n) ≡ times n (row 1)
+unfolding dueList times
+due-one n = refl
+
+pub total-two : (n : ℕ) → total (two n) ≡ n
+total-two n = omega arith
+
+pub total-one : (n : ℕ) → total (one n) ≡ n
+total-one n = omega arith

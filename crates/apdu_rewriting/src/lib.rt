@@ -1,0 +1,34 @@
+// Reading a message and writing what was read: the same octets come back.
+ghost use mathlib.Core.Path.{_≡_};
+ghost use lib.ListN.{length};
+ghost use Rattle.apdu_rewriting.specs.Rewriting.{answerOf, rewriteAnswer, rewriteOutput};
+use apdu_reading::Answer;
+use apdu_reading::read;
+use apdu_writing::ApduWritten;
+use apdu_writing::write;
+
+pub enum Rewritten {
+    // Reading's refusal: its number and position.
+    Refused(u8, usize),
+    // What writing answers; for a message that was read 22 is its only refusal.
+    Written(ApduWritten),
+}
+
+// Reads the message that `s` is and writes it to the front of `out`: reading's refusal, else 22 where `out` is shorter than `s`, else the octets of `s`.
+// Every other octet of `out` stays, and a refusal changes nothing.
+pub fn rewrite(s: &[u8], out: &mut [u8]) -> Rewritten
+    ensures { λ r. ⌜ (answerOf r ≡ rewriteAnswer (now (s .entry)) (length (now (out .entry)))) × (now (out .exit) ≡ rewriteOutput (now (s .entry)) (now (out .entry))) ⌝ }
+{
+    let r = read(s);
+    let answer = r.answer;
+    match answer {
+        Answer::Refused(number, position) => Rewritten::Refused(number, position),
+        Answer::Message(m) => {
+            let lists = r.lists;
+            let rows = lists.rows;
+            let entries = lists.entries;
+            let written = write(m, rows, entries, s, out);
+            Rewritten::Written(written)
+        }
+    }
+}
