@@ -59,7 +59,7 @@ module _ (is : List Component) (c : Quill) (o : List ℕ) (vs : List Value) (p :
 -- ---- octet strings
 
 -- the bits of a string that is inside
-string-bits : (s : List ℕ) (start n : ℕ) → start + 8 * n ≤ 8 * length s → bits (stringAt s start n) ≡ take (8 * n) (drop start (bits s))
+pub string-bits : (s : List ℕ) (start n : ℕ) → start + 8 * n ≤ 8 * length s → bits (stringAt s start n) ≡ take (8 * n) (drop start (bits s))
 unfolding stringAt bits field
 string-bits s start zero h = refl
 string-bits s start (suc n) h =

@@ -1,0 +1,10 @@
+pub mod Outcomes
+pub mod Agreement
+pub mod Leaves
+pub mod RowLists
+pub mod EntryLists
+pub mod Records
+pub mod Links
+pub mod AnyKind
+pub mod Answers
+pub mod Sameness

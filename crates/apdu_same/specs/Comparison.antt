@@ -1,0 +1,39 @@
+-- When two messages are the same (01, "Messages": "Two messages are the same when all other fields and the string octets agree, wherever the strings
+-- stand"), and what comparing two records answers. Absent fields and unused rows are no values of a record (specs/Values.antt of apdu): they are passed over.
+-- Assumes nothing.
+use Prim.Native.Nat.{ℕ}
+use mathlib.Core.List.{List, [], _∷_}
+use mathlib.Core.Bool.{Bool, true, false, _&&_, _||_, not}
+use Rattle.refusals.specs.Check.{check, firstOf, Answer, refused, accepted, decided}
+use Rattle.bits.specs.Strings.{sameOctets as sameNumbers}
+use Rattle.apdu_format.specs.Reading.{Value, fields, string}
+use Rattle.apdu.specs.declared.lists.Row.{Row}
+use Rattle.apdu.specs.declared.lists.Entry.{Entry}
+use Rattle.apdu.specs.declared.records.Message.{Message}
+use Rattle.apdu.specs.Values.{valuesOf}
+use Rattle.apdu.specs.Sound.{wellFormed}
+use Rattle.apdu_same.specs.declared.comparing.Compared.{Compared}
+use Rattle.apdu_same.specs.declared.comparing.Compared.the-variants as compared
+
+-- the fields of a component agree, or a string's bits, wherever it stands
+unfoldable pub sameValue : Value → Value → Bool
+sameValue (fields fs) (fields gs) = sameNumbers fs gs
+sameValue (fields fs) (string at l) = false
+sameValue (string at l) (fields gs) = false
+sameValue (string at l) (string from m) = sameNumbers l m
+
+unfoldable pub sameMessage : List Value → List Value → Bool
+sameMessage [] [] = true
+sameMessage [] (v ∷ vs) = false
+sameMessage (u ∷ us) [] = false
+sameMessage (u ∷ us) (v ∷ vs) = sameValue u v && sameMessage us vs
+
+-- 23 if either record breaks its condition, else whether they agree
+unfoldable pub sameAnswer : List ℕ → Message → List Entry → List Row → List ℕ → Message → List Entry → List Row → Answer Bool
+sameAnswer s a es rs t b fs ws =
+    decided (firstOf (check 23 (not (wellFormed s a es rs) || not (wellFormed t b fs ws)) ∷ [])) (sameMessage (valuesOf s a es rs) (valuesOf t b fs ws))
+
+unfoldable pub answerOf : Compared → Answer Bool
+answerOf compared.RecordOutOfRange = refused 23
+answerOf compared.Same = accepted true
+answerOf compared.Different = accepted false
