@@ -1,0 +1,9 @@
+pub mod Lists
+pub mod ElementLaws
+pub mod OfferLaws
+pub mod KnownLaws
+pub mod VstLaws
+pub mod BstLaws
+pub mod HearingLaws
+pub mod Theorems
+pub mod Examples
