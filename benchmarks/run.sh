@@ -1,13 +1,16 @@
 #!/usr/bin/env bash
 # Speed of the proved programs beside the plain Rust program of tests/second, in one run on the same input.
-# Usage: bash benchmarks/run.sh [LINES]. Prints lines a second of both and the ratio of their times, the best of five runs each.
+# Usage: bash benchmarks/run.sh [LINES [MESSAGES]]. Prints lines or messages a second of both and the ratio of their times, the best of five runs each.
 set -eu
 cd "$(dirname "${BASH_SOURCE[0]}")/.."
 lines=${1:-2000000}
-if ! log=$(rt check bench 2>&1); then
-    printf '%s\n' "$log" | tail -n 40
-    exit 1
-fi
+messages=${2:-200000}
+for program in bench decode; do
+    if ! log=$(rt check "$program" 2>&1); then
+        printf '%s\n' "$log" | tail -n 40
+        exit 1
+    fi
+done
 CARGO_TARGET_DIR="$PWD/target/second" cargo build --release --quiet --manifest-path tests/second/Cargo.toml
 input=$(mktemp)
 trap 'rm -f "$input"' EXIT
@@ -37,4 +40,13 @@ proved=$(best target/bin/bench)
 plain=$(best target/second/release/second bench)
 awk -v n="$lines" -v a="$proved" -v b="$plain" 'BEGIN {
     printf "bench: proved %d lines/s, plain Rust %d lines/s, ratio %.2f\n", n * 1000 / a, n * 1000 / b, a / b
+}'
+
+# Random messages of every kind, sound and damaged.
+target/second/release/second messages 1 "$messages" >"$input"
+target/bin/decode <"$input" | tail -n 1
+proved=$(best target/bin/decode)
+plain=$(best target/second/release/second decode)
+awk -v n="$messages" -v a="$proved" -v b="$plain" 'BEGIN {
+    printf "decode: proved %d messages/s, plain Rust %d messages/s, ratio %.2f\n", n * 1000 / a, n * 1000 / b, a / b
 }'

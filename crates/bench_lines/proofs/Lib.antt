@@ -1,6 +1,7 @@
 pub mod Appending
 pub mod Decimal
 pub mod Form
+pub mod HexLines
 pub mod Keeping
 pub mod Marks
 pub mod Parts

@@ -1,3 +1,4 @@
+pub mod Hex
 pub mod Inside
 pub mod Line
 pub mod Numerals

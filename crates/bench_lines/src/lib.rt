@@ -1,6 +1,7 @@
 // The lines of the bench program (01, "The bench program"): recorded lines read, answers and totals as text, and lines out of octets that come
 // in parts. No function asks anything of its caller.
 mod digits;
+mod hex;
 mod line;
 mod splitting;
 mod text;
@@ -13,6 +14,12 @@ pub const NOT_A_LINE: u8 = 0;
 // A line's LID and tick, and how many octets of LSDU stand at the front of the lent buffer; or a refusal.
 pub enum LineRead {
     Fields { lid: u32, tick: u32, octets: usize },
+    Refused(u8),
+}
+
+// How many octets of a line of hex stand at the front of the lent buffer; or a refusal.
+pub enum HexRead {
+    Octets(usize),
     Refused(u8),
 }
 
@@ -37,6 +44,7 @@ pub enum Appended {
     Refused(u8),
 }
 
+pub use hex::read_hex;
 pub use line::read_line;
 pub use splitting::keep_part;
 pub use splitting::line_end;
