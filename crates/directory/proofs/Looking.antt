@@ -8,7 +8,7 @@ use native.Mathlib.Nat.{add-zero}
 use native.Mathlib.Numerals.{add-one}
 use native.Mathlib.Omega.{arith}
 use lib.Dec.{ltb, leb}
-use lib.ListN.{length, length-set, getD, take, set}
+use lib.ListN.{length, length-set, getD, take, set, List·getD-eq-default}
 use lib.Seq.{length-take-le, take-suc-set, getD-take}
 use borrow.Author.Tests.{lt-ltb, le-ltb, ltb-true, ltb-false, le-leb, lt-leb, leb-true, leb-false, not-true, not-false}
 use denote.Ref.{RefT, now}
@@ -16,8 +16,9 @@ use Rattle.refusals.specs.Check.{firstOf, decided}
 use Rattle.refusals.proofs.Tests.{by-cases}
 use Rattle.directory.specs.declared.Row.{Row}
 use Rattle.directory.specs.declared.Directory.{Directory}
+use Rattle.directory.specs.declared.Found.{Found}
 use Rattle.directory.specs.declared.KnowsAnswer.the-variants.{Known, Refused}
-use Rattle.directory.specs.Directory.{noRow, mostRows, areaOctets, rowSound, eachSound, allApart, soundDirectory, indexOf, knownIn, rowOf, lookupRow, LookedUp, knowing, answerOf}
+use Rattle.directory.specs.Directory.{noRow, mostRows, areaOctets, rowSound, eachSound, allApart, soundDirectory, indexOf, knownIn, rowOf, finding, lookupRow, LookedUp, knowing, answerOf}
 use Rattle.directory.specs.Part.{PartOf}
 use Rattle.directory.specs.Gathered.{noDirectory, withRow, gatheredFrom, gathered, listOf}
 
@@ -67,7 +68,7 @@ each-at f w [] i e h = absurd (omega arith)
 each-at f w (r ∷ rs) zero e h = and-left-true (rowSound f w r) (eachSound f w rs) e
 each-at f w (r ∷ rs) (suc i) e h = each-at f w rs i (and-right-true (rowSound f w r) (eachSound f w rs) e) (omega arith)
 
-inside-area : (f w : ℕ) (row : Row) → rowSound f w row ≡ true → row .start + row .length ≤ areaOctets f w row
+pub inside-area : (f w : ℕ) (row : Row) → rowSound f w row ≡ true → row .start + row .length ≤ areaOctets f w row
 unfolding rowSound
 inside-area f w row e =
     leb-true (row .start + row .length) (areaOctets f w row) (and-right-true (leb (row .length) 127) _ (and-right-true (leb (row .id) 127) _ e))
@@ -125,6 +126,74 @@ module _ (f w : ℕ) (d : Directory) (id : ℕ) (long : length (d .rows) ≡ 32)
           ap (λ (l : List Row). getD l i noRow) (list-is f w d (sound-few s) long) ∙ getD-take (d .count) (d .rows) i noRow h in
           inside-area f w (getD (d .rows) i noRow) (ap (rowSound f w) (sym g) ∙ each-at f w (listOf d) i e k)
 
+-- ---- finding by value
+
+module _ (d : Directory) (id : ℕ) where
+  pub find-many : 32 < d .count → record { known = false; row = noRow } ≡ finding (listOf d) id
+  unfolding finding listOf
+  find-many h = simp (lt-leb _ _ h)
+
+  module _ (few : d .count ≤ 32) (long : length (d .rows) ≡ 32) {i : ℕ} (at : i ≡ indexOf id (take (d .count) (d .rows))) where
+    list : listOf d ≡ take (d .count) (d .rows)
+    list = list-is 0 0 d few long
+
+    in-limit : leb (length (listOf d)) mostRows ≡ true
+    in-limit = le-leb (length (listOf d)) mostRows (omega (arith, count-is 0 0 d few long))
+
+    index : indexOf id (listOf d) ≡ i
+    index = ap (indexOf id) list ∙ sym at
+
+    knows-it : knownIn id (listOf d) ≡ ltb i (d .count)
+    unfolding knownIn
+    knows-it = rw (index, count-is 0 0 d few long)
+
+    pub find-none : d .count ≤ i → record { known = false; row = noRow } ≡ finding (listOf d) id
+    unfolding finding
+    find-none h = simp (in-limit, knows-it, le-ltb _ _ h)
+
+    pub find-row : i < d .count → record { known = true; row = getD (d .rows) i noRow } ≡ finding (listOf d) id
+    unfolding finding rowOf
+    find-row h =
+        let e : getD (listOf d) (indexOf id (listOf d)) noRow ≡ getD (d .rows) i noRow = rw (index, list) (getD-take (d .count) (d .rows) i noRow h) in
+        simp (in-limit, knows-it, lt-ltb _ _ h, e)
+
+-- ---- a sound directory
+
+-- of at most 32 rows the row of an id is found, and none for an unknown id
+pub few-finding : (rows : List Row) → length rows ≤ 32 → (id : ℕ) → finding rows id ≡ record { known = knownIn id rows; row = rowOf id rows }
+unfolding finding
+few-finding rows few id = let h = le-leb (length rows) mostRows few in by-cases (knownIn id rows) (λ k. simp (h, k)) (λ k. simp (h, k) (unknown k))
+  where
+    unknown : knownIn id rows ≡ false → _≡_ {A = Found} (record { known = false; row = noRow }) (record { known = false; row = rowOf id rows })
+    unknown k =
+        let e : rowOf id rows ≡ noRow = unfold knownIn rowOf in (List·getD-eq-default rows noRow (ltb-false (indexOf id rows) (length rows) (unfold knownIn in k))) in
+        rw e
+
+module _ (f w : ℕ) (rows : List Row) (sound : soundDirectory f w rows ≡ true) where
+  pub sound-short : length rows ≤ 32
+  unfolding soundDirectory
+  sound-short = leb-true (length rows) mostRows (and-left-true (leb (length rows) mostRows) _ sound)
+
+  each-row : eachSound f w rows ≡ true
+  unfolding soundDirectory
+  each-row = and-left-true (eachSound f w rows) (allApart rows) (and-right-true (leb (length rows) mostRows) _ sound)
+
+  -- a row's part is inside its area, and so is none
+  pub sound-row : (id : ℕ) → rowSound f w (rowOf id rows) ≡ true
+  sound-row id = by-cases (knownIn id rows) (λ k. there (unfold knownIn in k)) (λ k. none (unfold knownIn in k))
+    where
+      there : ltb (indexOf id rows) (length rows) ≡ true → rowSound f w (rowOf id rows) ≡ true
+      there k = unfold rowOf in (each-at f w rows (indexOf id rows) each-row (ltb-true (indexOf id rows) (length rows) k))
+
+      none : ltb (indexOf id rows) (length rows) ≡ false → rowSound f w (rowOf id rows) ≡ true
+      none k =
+          let e : rowOf id rows ≡ noRow = unfold rowOf in (List·getD-eq-default rows noRow (ltb-false (indexOf id rows) (length rows) k)) in
+          rw e (unfold rowSound in le-leb 0 f (omega arith))
+
+pub row-short : (f w : ℕ) (row : Row) → rowSound f w row ≡ true → row .length ≤ 127
+unfolding rowSound
+row-short f w row e = leb-true (row .length) 127 (and-left-true (leb (row .length) 127) _ (and-right-true (leb (row .id) 127) _ e))
+
 -- the row that is found, and that its part is inside its area
 module _ (f w : ℕ) (r : Row) where
   pub no-row-inside : r ≡ noRow → r .start + r .length ≤ areaOctets f w r
@@ -179,7 +248,7 @@ gathered-over d (r ∷ rs) l h =
     (λ e. subst⁻¹ (λ (x : Directory). gatheredFrom x rs .count ≡ 33) (with-full d r (ltb-false (d .count) 32 e)) (gathered-over (record { rows = d .rows; count = 33 }) rs (omega arith) (omega arith)))
 
 -- at most 32 rows are gathered as they are
-gathered-few : (rs : List Row) → length rs ≤ 32 → listOf (gathered rs) ≡ rs
+pub gathered-few : (rs : List Row) → length rs ≤ 32 → listOf (gathered rs) ≡ rs
 unfolding listOf
 gathered-few rs h =
     let z : 0 + length rs ≡ length rs = omega arith in
@@ -188,7 +257,7 @@ gathered-few rs h =
     rw n (simp (le-leb _ _ h) (ap (λ (k : ℕ). take k (gatheredFrom noDirectory rs .rows)) (sym z) ∙ g .1))
 
 -- more are as unsound as they were
-gathered-many : (f w : ℕ) (rs : List Row) → 32 < length rs → soundDirectory f w (listOf (gathered rs)) ≡ soundDirectory f w rs
+pub gathered-many : (f w : ℕ) (rs : List Row) → 32 < length rs → soundDirectory f w (listOf (gathered rs)) ≡ soundDirectory f w rs
 unfolding soundDirectory
 gathered-many f w rs h =
     let n : gatheredFrom noDirectory rs .count ≡ 33 = gathered-over noDirectory rs (omega arith) (omega arith) in
@@ -196,7 +265,7 @@ gathered-many f w rs h =
 
 -- so looking up in what is gathered is looking up in the list
 module _ (f w : ℕ) (rs : List Row) (id : ℕ) where
-  unsound : 32 < length rs → soundDirectory f w rs ≡ false
+  pub unsound : 32 < length rs → soundDirectory f w rs ≡ false
   unfolding soundDirectory
   unsound h = simp (lt-leb (length rs) 32 h)
 

@@ -8,6 +8,7 @@ use lib.ListN.{length, getD}
 use denote.Ref.{RefT, now}
 use Rattle.refusals.specs.Check.{pick, check, firstOf, Answer, refused, accepted, decided}
 use Rattle.directory.specs.declared.Row.{Row}
+use Rattle.directory.specs.declared.Found.{Found}
 use Rattle.directory.specs.declared.KnowsAnswer.{KnowsAnswer}
 use Rattle.directory.specs.declared.KnowsAnswer.the-variants.{Known, Refused}
 use Rattle.directory.specs.Part.{PartOf}
@@ -79,6 +80,10 @@ knownIn id rows = ltb (indexOf id rows) (length rows)
 
 unfoldable pub rowOf : ℕ → List Row → Row
 rowOf id rows = getD rows (indexOf id rows) noRow
+
+-- whether a directory of at most 32 rows has the id, and its row
+unfoldable pub finding : List Row → ℕ → Found
+finding rows id = pick (leb (length rows) mostRows && knownIn id rows) (record { known = true; row = rowOf id rows }) (record { known = false; row = noRow })
 
 -- the row whose part lookup gives; without one, or in a directory that is not sound, the empty part at the factory area's front
 unfoldable pub lookupRow : (factory writable : ℕ) → List Row → ℕ → Row

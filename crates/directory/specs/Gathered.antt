@@ -1,4 +1,4 @@
--- The rows as the private functions hold them: up to 32 by value, and a count of 33 for more. No public contract cites this file.
+-- The rows by value, as `gather` hands them over: up to 32, and a count of 33 for more.
 -- Assumes nothing.
 use Prim.Native.Nat.{_+_}
 use mathlib.Core.List.{List, [], _∷_}

@@ -4,7 +4,7 @@ ghost use mathlib.Core.Path.{_≡_};
 ghost use Prim.Native.Nat.{_+_, _≤_};
 ghost use lib.ListN.{length, take};
 ghost use Rattle.directory.specs.Part.{PartOf};
-ghost use Rattle.directory.specs.Directory.{noRow, areaOctets, rowSound, eachSound, sameArea, shareOctet, clashes, allApart, soundDirectory, indexOf, lookupRow, LookedUp, knowing, answerOf, areaOf};
+ghost use Rattle.directory.specs.Directory.{noRow, areaOctets, rowSound, eachSound, sameArea, shareOctet, clashes, allApart, soundDirectory, indexOf, finding, lookupRow, LookedUp, knowing, answerOf, areaOf};
 ghost use Rattle.directory.specs.Gathered.{noDirectory, withRow, gathered, listOf};
 
 // 01's attribute row. A start and a length count octets.
@@ -27,6 +27,12 @@ pub struct Directory {
 pub enum KnowsAnswer {
     Known(bool),
     Refused(u8),
+}
+
+// Whether a directory has a row with an id, and that row; without one, a row of zeros.
+pub struct Found {
+    pub known: bool,
+    pub row: Row,
 }
 
 pub const MOST_ROWS: usize = 32;
@@ -153,7 +159,8 @@ fn all_apart(d: Directory) -> bool
     true
 }
 
-fn sound_in(d: Directory, factory: usize, writable: usize) -> bool
+// Whether the directory is sound for areas of so many octets (26).
+pub fn sound_in(d: Directory, factory: usize, writable: usize) -> bool
     ensures { λ r. ⌜ r ≡ soundDirectory factory writable (listOf d) ⌝ }
 {
     if MOST_ROWS < d.count {
@@ -168,7 +175,7 @@ fn sound_in(d: Directory, factory: usize, writable: usize) -> bool
 // ---- looking up
 
 // The index of the first row with the id, or the number of rows.
-fn index_of(d: Directory, id: u8) -> usize
+fn index_of(d: Directory, id: u16) -> usize
     requires { ⌜ d .count ≤ 32 ⌝ }
     ensures { λ r. ⌜ (r ≡ indexOf id (take (d .count) (d .rows))) × (r ≤ d .count) ⌝ }
 {
@@ -176,12 +183,34 @@ fn index_of(d: Directory, id: u8) -> usize
     let mut i: usize = 0;
     while i < n {
         let row = d.rows[i];
-        if row.id == id {
+        if row.id as u16 == id {
             return i;
         }
         i += 1;
     }
     n
+}
+
+// The row with the id; in a directory of more than 32 rows none is found.
+pub fn find(d: Directory, id: u16) -> Found
+    ensures { λ r. ⌜ r ≡ finding (listOf d) id ⌝ }
+{
+    let n = d.count;
+    if MOST_ROWS < n {
+        return Found {
+            known: false,
+            row: no_row(),
+        };
+    }
+    let i = index_of(d, id);
+    if n <= i {
+        return Found {
+            known: false,
+            row: no_row(),
+        };
+    }
+    let row = d.rows[i];
+    Found { known: true, row }
 }
 
 // The row whose part lookup gives.
@@ -191,7 +220,7 @@ fn row_for(d: Directory, factory: usize, writable: usize, id: u8) -> Row
     if !sound_in(d, factory, writable) {
         return no_row();
     }
-    let i = index_of(d, id);
+    let i = index_of(d, id as u16);
     let n = d.count;
     if n <= i {
         return no_row();
@@ -227,7 +256,7 @@ pub(crate) fn knows_in(d: Directory, factory: usize, writable: usize, id: u8) ->
     if !sound_in(d, factory, writable) {
         return KnowsAnswer::Refused(refusals::LIST_NOT_SOUND);
     }
-    let i = index_of(d, id);
+    let i = index_of(d, id as u16);
     KnowsAnswer::Known(i < d.count)
 }
 
@@ -259,7 +288,7 @@ fn with_row(d: Directory, row: Row) -> Directory
 }
 
 // The lent rows, by value.
-fn gather(rows: &[Row]) -> Directory
+pub fn gather(rows: &[Row]) -> Directory
     ensures { λ d. ⌜ d ≡ gathered (now (rows .entry)) ⌝ }
 {
     let mut d = empty();

@@ -27,6 +27,9 @@ mul-row c = omega arith
 element-copy-out-row : tie.Need-element-copy-out-row Inv-loop μ-loop
 element-copy-out-row c = omega arith
 
+cast-if1 : tie.Need-cast-if1 Inv-loop μ-loop
+cast-if1 c = omega arith
+
 returns : tie.Need-returns Inv-loop μ-loop
 returns c =
     let a = c .before .before .before .before in
@@ -59,6 +62,7 @@ index-of-spec =
     loop-holds
     mul-row
     element-copy-out-row
+    cast-if1
     returns
     add-i
     loop-less

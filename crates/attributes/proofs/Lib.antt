@@ -1,0 +1,10 @@
+pub mod Faults
+pub mod Serves
+pub mod Sending
+pub mod Gathering
+pub mod ValueReply
+pub mod Outcomes
+pub mod Ranges
+pub mod Promises
+pub mod Kept
+pub mod Examples

@@ -1,0 +1,284 @@
+-- The promises of specs/Promises.antt, each of every tag, request and output.
+-- Assumes nothing.
+use Prim.Native.Nat.{ℕ, _+_, _-_, _≤_}
+use mathlib.Core.Path.{_≡_, refl, ap, ap₂, sym, _∙_}
+use mathlib.Core.Bool.{Bool, true, false, not, _&&_}
+use mathlib.Core.List.{List, [], _∷_, _++_, append-assoc}
+use mathlib.Core.Logic.{_⊎_, inl, inr}
+use native.Mathlib.Omega.{arith}
+use lib.Dec.{eqb, ltb, leb}
+use lib.ListN.{length, take, drop, length-append, length-drop, take-append-drop}
+use lib.Seq.{take-at, drop-at, drop-drop, take-append-le, drop-append-le, length-take-le}
+use borrow.Author.Tests.{eqb-true, eq-eqb, leb-true, ltb-false, ne-eqb}
+use Rattle.refusals.specs.Check.{pick, check, firstOf}
+use Rattle.refusals.proofs.Tests.{by-test, by-cases, first-none}
+use Rattle.bits.specs.Bits.{octets}
+use Rattle.bits.specs.Strings.{isInside, stringAt, copyFits, copyString}
+use Rattle.bits.proofs.Laws.{length-octets}
+use Rattle.bits.proofs.Strings.{length-string}
+use Rattle.apdu_format.proofs.Tests.{never, both}
+use Rattle.apdu_format.specs.Writing.{size, encode, encodedOctets}
+use Rattle.apdu.specs.declared.records.GetRequest.{GetRequest}
+use Rattle.apdu.specs.declared.records.SetRequest.{SetRequest}
+use Rattle.apdu.specs.declared.records.Message.{Message}
+use Rattle.apdu.specs.declared.records.Message.the-variants as kind
+use Rattle.apdu.specs.Values.{valuesOf}
+use Rattle.apdu.specs.Sound.{wellFormed}
+use Rattle.apdu_reading.specs.declared.front.Answer.{Answer}
+use Rattle.apdu_reading.specs.declared.front.Answer.the-variants as answer
+use Rattle.apdu_reading.specs.declared.front.Reading.{Reading}
+use Rattle.apdu_writing.specs.Answer.{writeRefusal, answered, writeAnswer, writeOutput}
+use Rattle.apdu_writing.proofs.RoundTrip.{written-reads}
+use Rattle.directory.specs.declared.Row.{Row}
+use Rattle.directory.specs.Directory.{knownIn, rowOf, soundDirectory}
+use Rattle.attributes.specs.Serving.{Attribute, Tag, Reply, Outcome, refused, refusedAt, silent, replied, Effect, effect, noEntries, exact, denied, getFault, getFaults, idsFrom, rowsOf, valuesIn, getStatus, setStatus, setRow, setRows, valueOf, getReply, getRefusal, setReply, echoReply, writes, sent, tooLong, getting, setting, carried, served, byReading, requested, leastOutput}
+use Rattle.attributes.specs.Promises.{Short, ReadsBack, SameReply, AgreeOpen, holdsExact, Without}
+use Rattle.attributes.specs.Inside.{tagOf}
+
+abbrev isReply : Outcome → Bool
+isReply (refused k) = false
+isReply (refusedAt k p) = false
+isReply silent = false
+isReply (replied n) = true
+
+-- ---- a reply that is sent
+
+module _ (q : Reply) (w out : List ℕ) where
+  abbrev refusal : ℕ
+  refusal = writeRefusal (q .lent) (q .message) noEntries (q .attributes) (length out)
+
+  abbrev long : ℕ
+  long = size (valuesOf (q .lent) (q .message) noEntries (q .attributes))
+
+  -- it is sent only where writing refuses nothing
+  sent-none : (n : ℕ) → sent q w out .outcome ≡ replied n → (refusal ≡ 0) × (long ≡ n)
+  unfolding sent writes writeAnswer answered
+  sent-none n h =
+      by-cases (eqb refusal 0)
+      (λ t. let e : replied long ≡ replied n = rw t at h in (eqb-true refusal 0 t, cc))
+      (λ t. by-cases (eqb refusal 21) (λ u. never (ap isReply (rw (t, u) at h))) (λ u. never (ap isReply (rw (t, u) at h))))
+
+  short-size : refusal ≡ 0 → long ≤ 512
+  unfolding writeRefusal
+  short-size h = ltb-false 512 long (first-none 20 (ltb 512 long) _ (first-none 22 (not (wellFormed (q .lent) (q .message) noEntries (q .attributes))) _ h .1) .0)
+
+  pub sent-short : Short (sent q w out)
+  sent-short = record { so = λ n h. let k = sent-none n h in omega (arith, k .1, short-size (k .0)) }
+
+  front : (n : ℕ) → refusal ≡ 0 → long ≡ n → take n (sent q w out .output) ≡ encodedOctets (valuesOf (q .lent) (q .message) noEntries (q .attributes))
+  unfolding sent writeOutput encodedOctets
+  front n z e =
+      let vs = valuesOf (q .lent) (q .message) noEntries (q .attributes) in
+      rw (eq-eqb refusal 0 z) (take-at (octets (size vs) (encode vs)) (drop (size vs) out) n (length-octets (size vs) (encode vs) ∙ e))
+
+  pub sent-reads : ReadsBack q (sent q w out)
+  sent-reads =
+      record {
+        so = λ n h.
+            let k = sent-none n h in
+            rw (front n (k .0) (k .1)) (written-reads (q .lent) (q .message) noEntries (q .attributes) out (k .0));
+      }
+
+-- ---- every call
+
+module _ (P : Effect → Type 0) (tag : Tag) (s out : List ℕ) (no : (o : Outcome) → isReply o ≡ false → P (effect o (tag .writable) out)) (quiet : (w : List ℕ) → P (effect silent w out))
+    (yes : (q : Reply) (w : List ℕ) → P (sent q w out)) where
+  by-carried : (m : Message) (attributes : List Attribute) → P (carried tag s m attributes out)
+  unfolding carried getting setting
+  by-carried (kind.ActionRequest m) attributes = yes _ _
+  by-carried (kind.ActionResponse m) attributes = no (refused 24) refl
+  by-carried (kind.EventRequest m) attributes = no (refused 24) refl
+  by-carried (kind.EventResponse m) attributes = no (refused 24) refl
+  by-carried (kind.SetRequest m) attributes = by-test P (m .mode) (λ t. yes _ _) (λ t. quiet _)
+  by-carried (kind.SetResponse m) attributes = no (refused 24) refl
+  by-carried (kind.GetRequest m) attributes =
+      by-test P (eqb (getStatus tag s m) 0)
+      (λ t. by-test P (tooLong (sent (getReply tag s m) (tag .writable) out .outcome)) (λ u. yes _ _) (λ u. yes _ _))
+      (λ t. yes _ _)
+  by-carried (kind.GetResponse m) attributes = no (refused 24) refl
+  by-carried (kind.Bst m) attributes = no (refused 24) refl
+  by-carried (kind.Vst m) attributes = no (refused 24) refl
+
+  by-answer : (a : Answer) (attributes : List Attribute) → P (byReading tag s a attributes out)
+  unfolding byReading
+  by-answer (answer.Refused k p) attributes = no (refusedAt k p) refl
+  by-answer (answer.Message m) attributes = by-test P (served m) (λ t. by-carried m attributes) (λ t. no (refused 24) refl)
+
+  every : (r : Reading) → P (requested tag s r out)
+  unfolding requested
+  every r =
+      let first = firstOf (check 1 (ltb (length out) leastOutput) ∷ check 26 (not (soundDirectory (length (tag .factory)) (length (tag .writable)) (tag .directory))) ∷ []) in
+      by-test P (eqb first 0) (λ t. by-answer (r .answer) (r .lists .rows)) (λ t. no (refused first) refl)
+
+-- no reply is longer than 512 octets
+pub reply-short : (tag : Tag) (s : List ℕ) (r : Reading) (out : List ℕ) → Short (requested tag s r out)
+reply-short tag s r out =
+    every Short tag s out
+    (λ o e. record { so = λ n h. never (sym e ∙ ap isReply h) })
+    (λ w. record { so = λ n h. never (ap isReply h) })
+    (λ q w. sent-short q w out) r
+
+-- ---- a SET with a fault
+
+pub set-keeps : (tag : Tag) (s : List ℕ) (m : SetRequest) (attributes : List Attribute) (out : List ℕ) → (setStatus tag s m attributes ≡ 0 → ⊥) → setting tag s m attributes out .writable ≡ tag .writable
+unfolding setting sent
+set-keeps tag s m attributes out n =
+    let k : eqb (setStatus tag s m attributes) 0 ≡ false = ne-eqb (setStatus tag s m attributes) 0 n in
+    by-test (λ (e : Effect). e .writable ≡ tag .writable) (m .mode) (λ t. rw k) (λ t. rw k)
+
+-- ---- without the tag's exact credentials
+
+open-row : (b : Bool) → (b && true) ≡ false → b ≡ false
+open-row true h = h
+open-row false h = refl
+
+module _ (rows : List Row) (f w f' w' : List ℕ) (agree : AgreeOpen rows f w f' w') where
+  values-blind : (ids : List ℕ) → firstOf (getFaults rows false ids) ≡ 0 → valuesIn f w (rowsOf rows ids) ≡ valuesIn f' w' (rowsOf rows ids)
+  unfolding getFaults getFault denied valuesIn rowsOf
+  values-blind [] h = refl
+  values-blind (id ∷ ids) h =
+      let a = first-none 1 (not (knownIn id rows)) _ h .1 in
+      let b = first-none 0 (rowOf id rows .protected && true) (getFaults rows false ids) a in
+      ap₂ _++_ (agree .so id (open-row (rowOf id rows .protected) (b .0))) (values-blind ids (b .1))
+
+  module _ (eid : ℕ) (credentials s : List ℕ) (m : GetRequest) (out : List ℕ) (without : exact s credentials (m .«has_credentials») (m .credentials) (m .«credentials_length») ≡ false) where
+    abbrev one : Tag
+    one = tagOf eid credentials rows f w
+
+    abbrev other : Tag
+    other = tagOf eid credentials rows f' w'
+
+    same-status : getStatus one s m ≡ getStatus other s m
+    unfolding getStatus
+    same-status = refl
+
+    same-reply : getStatus one s m ≡ 0 → getReply one s m ≡ getReply other s m
+    unfolding getStatus getReply
+    same-reply h =
+        let a = first-none 1 (not (eqb (m .eid) eid)) _ h .1 in
+        let b = first-none 1 (not (m .«has_ids»)) _ a .1 in
+        let c : firstOf (getFaults rows false (idsFrom s (m .ids) (m .count))) ≡ 0 = rw without at b in
+        rw (values-blind (idsFrom s (m .ids) (m .count)) c)
+
+    -- the reply to a GET is the same, whatever the octets of protected rows
+    pub get-blind : SameReply (getting one s m out) (getting other s m out)
+    unfolding getting sent
+    get-blind =
+        by-cases (eqb (getStatus other s m) 0)
+        (λ t.
+        let e : getReply one s m ≡ getReply other s m = same-reply (same-status ∙ eqb-true (getStatus other s m) 0 t) in
+        by-cases (tooLong (sent (getReply other s m) w' out .outcome))
+        (λ u. record { outcome = rw (same-status, t, e, u); output = rw (same-status, t, e, u) })
+        (λ u. record { outcome = rw (same-status, t, e, u); output = rw (same-status, t, e, u) }))
+        (λ t. record { outcome = rw (same-status, t); output = rw (same-status, t) })
+
+-- the reply to a SET does not depend on the areas at all
+pub set-blind : (eid : ℕ) (credentials : List ℕ) (rows : List Row) (f w f' w' s : List ℕ) (m : SetRequest) (attributes : List Attribute) (out : List ℕ)
+    → SameReply (setting (tagOf eid credentials rows f w) s m attributes out) (setting (tagOf eid credentials rows f' w') s m attributes out)
+unfolding setting sent setStatus
+set-blind eid credentials rows f w f' w' s m attributes out =
+    by-cases (m .mode) (λ t. record { outcome = rw t; output = rw t }) (λ t. record { outcome = rw t; output = rw t })
+
+-- the reply to any request is the same, whatever the octets of protected rows
+module _ (eid : ℕ) (credentials : List ℕ) (rows : List Row) (f w f' w' : List ℕ) (agree : AgreeOpen rows f w f' w') (s out : List ℕ) where
+  abbrev left : Tag
+  left = tagOf eid credentials rows f w
+
+  abbrev right : Tag
+  right = tagOf eid credentials rows f' w'
+
+  same-effect : (o : Outcome) → SameReply (effect o w out) (effect o w' out)
+  same-effect o = record { outcome = refl; output = refl }
+
+  carried-blind : (m : Message) (attributes : List Attribute) → holdsExact s credentials m ≡ false → SameReply (carried left s m attributes out) (carried right s m attributes out)
+  unfolding carried holdsExact sent
+  carried-blind (kind.ActionRequest m) attributes h = record { outcome = refl; output = refl }
+  carried-blind (kind.ActionResponse m) attributes h = same-effect (refused 24)
+  carried-blind (kind.EventRequest m) attributes h = same-effect (refused 24)
+  carried-blind (kind.EventResponse m) attributes h = same-effect (refused 24)
+  carried-blind (kind.SetRequest m) attributes h = set-blind eid credentials rows f w f' w' s m attributes out
+  carried-blind (kind.SetResponse m) attributes h = same-effect (refused 24)
+  carried-blind (kind.GetRequest m) attributes h = get-blind rows f w f' w' agree eid credentials s m out h
+  carried-blind (kind.GetResponse m) attributes h = same-effect (refused 24)
+  carried-blind (kind.Bst m) attributes h = same-effect (refused 24)
+  carried-blind (kind.Vst m) attributes h = same-effect (refused 24)
+
+  answer-blind : (a : Answer) (attributes : List Attribute) → Without s credentials a → SameReply (byReading left s a attributes out) (byReading right s a attributes out)
+  unfolding byReading
+  answer-blind (answer.Refused k p) attributes h = same-effect (refusedAt k p)
+  answer-blind (answer.Message m) attributes h = by-cases (served m) (λ t. rw t (carried-blind m attributes h)) (λ t. rw t (same-effect (refused 24)))
+
+  pub request-blind : (r : Reading) → length f ≡ length f' → length w ≡ length w' → Without s credentials (r .answer) → SameReply (requested left s r out) (requested right s r out)
+  unfolding requested
+  request-blind r a b h =
+      let first = firstOf (check 1 (ltb (length out) leastOutput) ∷ check 26 (not (soundDirectory (length f') (length w') rows)) ∷ []) in
+      by-cases (eqb first 0)
+      (λ t. rw (a, b, t) (answer-blind (r .answer) (r .lists .rows) h))
+      (λ t. rw (a, b, t) (same-effect (refused first)))
+
+-- ---- what a SET leaves in an area
+
+module _ (w v : List ℕ) (at : ℕ) (room : at + length v ≤ length w) where
+  -- the area with v in the part from at on
+  abbrev with-part : List ℕ
+  with-part = take at w ++ (v ++ drop (at + length v) w)
+
+  before-part : length (take at w) ≡ at
+  before-part = length-take-le at w (omega arith)
+
+  part-is : take (length v) (drop at with-part) ≡ v
+  part-is =
+      ap (take (length v)) (drop-at (take at w) (v ++ drop (at + length v) w) at before-part) ∙ take-at v (drop (at + length v) w) (length v) refl
+
+  -- a part in front of it keeps its octets, and so does one behind it
+  part-front : (i n : ℕ) → i + n ≤ at → take n (drop i with-part) ≡ take n (drop i w)
+  part-front i n h =
+      let d = length-drop i (take at w) in
+      let go : (x : List ℕ) → take n (drop i (take at w ++ x)) ≡ take n (drop i (take at w)) =
+      λ x. ap (take n) (drop-append-le i (take at w) x (omega (arith, before-part))) ∙ take-append-le n (drop i (take at w)) x (omega (arith, before-part)) in
+      go (v ++ drop (at + length v) w) ∙ sym (go (drop at w)) ∙ ap (λ (l : List ℕ). take n (drop i l)) (take-append-drop at w)
+
+  part-behind : (i n : ℕ) → at + length v ≤ i → take n (drop i with-part) ≡ take n (drop i w)
+  part-behind i n h =
+      let x = take at w ++ v in
+      let y = drop (at + length v) w in
+      let l : length x ≡ at + length v = omega (arith, length-append (take at w) v, before-part) in
+      let j = i - (at + length v) in
+      let e : at + length v + j ≡ i = omega arith in
+      let go : (z : List ℕ) → drop (at + length v) z ≡ y → drop i z ≡ drop j y =
+      λ z k. ap (λ (m : ℕ). drop m z) (sym e) ∙ sym (drop-drop j (at + length v) z) ∙ ap (drop j) k in
+      ap (take n)
+      (go with-part (ap (drop (at + length v)) (sym (append-assoc (take at w) v y)) ∙ drop-at x y (at + length v) l) ∙ sym (go w refl))
+
+module _ (s : List ℕ) (rows : List Row) (a : Attribute) (f w : List ℕ) (fits : copyFits s (a .start) (a .n) w (rowOf (a .id) rows .start) ≡ true) where
+  abbrev target : Row
+  target = rowOf (a .id) rows
+
+  abbrev value : List ℕ
+  value = stringAt s (a .start) (a .n)
+
+  room : target .start + length value ≤ length w
+  unfolding copyFits
+  room = omega (arith, length-string s (a .start) (a .n), leb-true (target .start + a .n) (length w) (both (isInside (length s) (a .start) (a .n)) (leb (target .start + a .n) (length w)) fits .1))
+
+  set-is : setRow s rows a w ≡ with-part w value (target .start) room
+  unfolding setRow copyString
+  set-is = rw (fits, length-string s (a .start) (a .n))
+
+  -- the row that a SET names holds the value set
+  pub set-value : target .writable ≡ true → a .n ≡ target .length → valueOf f (setRow s rows a w) target ≡ value
+  unfolding valueOf
+  set-value h n =
+      let e : target .length ≡ length value = omega (arith, length-string s (a .start) (a .n)) in
+      rw (h, set-is, e) (part-is w value (target .start) room)
+
+  -- a row of the area that shares no octet with it keeps its octets
+  pub set-leaves : (row : Row) → row .writable ≡ true → (row .start + row .length ≤ target .start) ⊎ (target .start + a .n ≤ row .start) → valueOf f (setRow s rows a w) row ≡ valueOf f w row
+  unfolding valueOf
+  set-leaves row h (inl k) = rw (h, set-is) (part-front w value (target .start) room (row .start) (row .length) k)
+  set-leaves row h (inr k) = rw (h, set-is) (part-behind w value (target .start) room (row .start) (row .length) (omega (arith, length-string s (a .start) (a .n))))
+
+  -- and so does a row of the factory area
+  pub set-factory-left : (row : Row) → row .writable ≡ false → valueOf f (setRow s rows a w) row ≡ valueOf f w row
+  unfolding valueOf
+  set-factory-left row h = rw h
