@@ -237,7 +237,7 @@ fn between<'a>(s: &'a [u8], start: usize, n: usize) -> &'a [u8]
 }
 
 // The lookup over the rows by value.
-pub(crate) fn lookup_in<'a>(d: Directory, factory: &'a [u8], writable: &'a [u8], id: u8) -> &'a [u8]
+pub fn lookup_in<'a>(d: Directory, factory: &'a [u8], writable: &'a [u8], id: u8) -> &'a [u8]
     ensures { λ r. ⌜ LookedUp (listOf d) (factory .entry) (writable .entry) id r ⌝ }
 {
     let row = row_for(d, factory.len(), writable.len(), id);
@@ -250,7 +250,7 @@ pub(crate) fn lookup_in<'a>(d: Directory, factory: &'a [u8], writable: &'a [u8],
 }
 
 // The second call over the rows by value.
-pub(crate) fn knows_in(d: Directory, factory: usize, writable: usize, id: u8) -> KnowsAnswer
+pub fn knows_in(d: Directory, factory: usize, writable: usize, id: u8) -> KnowsAnswer
     ensures { λ r. ⌜ answerOf r ≡ knowing factory writable (listOf d) id ⌝ }
 {
     if !sound_in(d, factory, writable) {
@@ -262,7 +262,7 @@ pub(crate) fn knows_in(d: Directory, factory: usize, writable: usize, id: u8) ->
 
 // ---- the lent rows
 
-fn empty() -> Directory
+pub fn empty() -> Directory
     ensures { λ r. ⌜ r ≡ noDirectory ⌝ }
 {
     Directory {
@@ -272,7 +272,7 @@ fn empty() -> Directory
 }
 
 // The directory with one row more; where it holds 32 already, its count is 33 and its rows stay.
-fn with_row(d: Directory, row: Row) -> Directory
+pub fn with_row(d: Directory, row: Row) -> Directory
     ensures { λ r. ⌜ r ≡ withRow d row ⌝ }
 {
     let mut next = d;

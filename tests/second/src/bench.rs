@@ -40,7 +40,8 @@ pub fn parse(line: &[u8]) -> Option<Line> {
     Some(Line { lid: parse_lid(lid)?, tick: decimal(&rest[..space])?, lsdu, length })
 }
 
-fn parse_lid(digits: &[u8]) -> Option<u32> {
+/// A LID of up to 8 hex digits of either case.
+pub fn parse_lid(digits: &[u8]) -> Option<u32> {
     digits.iter().try_fold(0, |lid, digit| Some(lid << 4 | u32::from(hex::digit(*digit)?)))
 }
 

@@ -23,6 +23,13 @@ pub fn read(digits: &[u8], room: &mut [u8]) -> Option<usize> {
     Some(length)
 }
 
+/// The octets of digit pairs, as many as there are.
+pub fn read_all(digits: &[u8]) -> Option<Vec<u8>> {
+    let mut octets = vec![0; digits.len() / 2];
+    read(digits, &mut octets)?;
+    Some(octets)
+}
+
 pub fn append(octets: &[u8], text: &mut String) {
     const DIGITS: &[u8; 16] = b"0123456789ABCDEF";
     for octet in octets {
@@ -40,8 +47,5 @@ pub fn text(octets: &[u8]) -> String {
 /// The octets of a literal in a test.
 #[cfg(test)]
 pub fn octets(text: &str) -> Vec<u8> {
-    let mut room = vec![0; text.len()];
-    let length = read(text.as_bytes(), &mut room).expect("hexadecimal literal");
-    room.truncate(length);
-    room
+    read_all(text.as_bytes()).expect("hexadecimal literal")
 }

@@ -3,9 +3,11 @@
 
 pub mod attributes;
 pub mod bench;
+pub mod calls;
 pub mod check;
 pub mod composer;
 pub mod decode;
+pub mod equipment;
 pub mod fragments;
 pub mod header;
 pub mod header_samples;
@@ -20,5 +22,9 @@ pub mod reading;
 pub mod reassembly;
 pub mod recording;
 pub mod refusal;
+pub mod requests;
 pub mod samples;
+pub mod script;
+pub mod scripts;
+pub mod tag;
 pub mod writing;

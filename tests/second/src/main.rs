@@ -1,11 +1,12 @@
 //! Commands of the second program; see USAGE.
 
 use std::io::{self, BufWriter, Write};
+use std::path::Path;
 use std::process::ExitCode;
 
 use second::bench::{self, TableEngine};
 use second::ledger::Ledger;
-use second::{check, decode, header, header_samples, hex, lines, recording, samples};
+use second::{check, decode, header, header_samples, hex, lines, recording, samples, scripts, tag};
 
 const USAGE: &str = "usage:
   second bench                          recorded lines in, answers by the table
@@ -17,7 +18,10 @@ const USAGE: &str = "usage:
   second written                        LAST NUMBER COUNTER ROOM in, headers out
   second check-joining SEED COUNT       random call lists, table against ledger
   second messages SEED COUNT            random messages in hex
-  second decode                         messages in, their fields out";
+  second decode                         messages in, their fields out
+  second tag                            a script in, an answer for each call out
+  second script SEED                    a random script for the tag
+  second scripts SEED COUNT FOLDER      those of COUNT seeds, SEED.stdin, and their answers, SEED.stdout";
 
 /// Longest line of `header-answers` and `written`.
 const SHORT_LINE: usize = 80;
@@ -42,6 +46,9 @@ fn command(words: &[&str]) -> io::Result<ExitCode> {
         ["bench"] => bench::run(input, &mut output, &mut TableEngine::default())?,
         ["bench-ledger"] => bench::run(input, &mut output, &mut Ledger::default())?,
         ["decode"] => decode::run(input, &mut output)?,
+        ["tag"] => tag::run(input, &mut output)?,
+        ["script", seed] => return script(seed, &mut output),
+        ["scripts", seed, count, folder] => return script_files(seed, count, folder),
         ["header-answers"] => answer_lines(input, &mut output, header_answer)?,
         ["written"] => answer_lines(input, &mut output, written_header)?,
         [name, seed, count] => return seeded(name, seed, count, &mut output),
@@ -69,6 +76,23 @@ fn seeded(name: &str, seed: &str, count: &str, output: &mut impl Write) -> io::R
         _ => return Ok(usage()),
     }
     output.flush()?;
+    Ok(ExitCode::SUCCESS)
+}
+
+fn script(seed: &str, output: &mut impl Write) -> io::Result<ExitCode> {
+    let Ok(seed) = seed.parse() else {
+        return Ok(usage());
+    };
+    output.write_all(&scripts::script(seed))?;
+    output.flush()?;
+    Ok(ExitCode::SUCCESS)
+}
+
+fn script_files(seed: &str, count: &str, folder: &str) -> io::Result<ExitCode> {
+    let (Ok(seed), Ok(count)) = (seed.parse(), count.parse()) else {
+        return Ok(usage());
+    };
+    scripts::write_files(seed, count, Path::new(folder))?;
     Ok(ExitCode::SUCCESS)
 }
 

@@ -1,0 +1,48 @@
+-- `tag::calls::request` is safe: the writable part lies inside its area. Assumes nothing.
+use native.Mathlib.Omega.{arith}
+use lib.Seq.{length-take-le}
+use mathlib.Core.Path.{sym}
+use borrow.Author.Needs.{needs}
+use Rattle.tag.proofs.calls.request.Statement.{statement}
+use Rattle.tag.proofs.calls.request.Tie as tie
+
+returns : tie.Need-returns
+returns c = search needs
+
+cast-request-in : tie.Need-cast-request-in
+cast-request-in c = search needs
+
+slice-relend-prefix-request-in : tie.Need-slice-relend-prefix-request-in
+slice-relend-prefix-request-in c = search needs
+
+slice-aggregate-request-in : tie.Need-slice-aggregate-request-in
+slice-aggregate-request-in c = sym (length-take-le _ _ (omega arith))
+
+request-in-requires : tie.Need-request-in-requires
+request-in-requires c κs = search needs
+
+request-answer-requires : tie.Need-request-answer-requires
+request-answer-requires c κs = search needs
+
+same-length : tie.Need-same-length
+same-length c = search needs
+
+same-length-2 : tie.Need-same-length-2
+same-length-2 c = search needs
+
+returns-2 : tie.Need-returns-2
+returns-2 c = search needs
+
+pub request-spec : {M : Type 1} → statement M
+request-spec =
+    tie.close
+    (tie.spec
+    returns
+    cast-request-in
+    slice-relend-prefix-request-in
+    slice-aggregate-request-in
+    request-in-requires
+    request-answer-requires
+    same-length
+    same-length-2
+    returns-2)

@@ -1,0 +1,51 @@
+-- `tag::words::space` stays inside the line and ends: the characters not yet seen grow fewer. Assumes nothing.
+use native.Mathlib.Omega.{arith}
+use lib.ListN.{length}
+use Prim.Native.Nat.{_≤_, _-_}
+use Rattle.tag.proofs.words.space.Statement.{statement}
+use Rattle.tag.proofs.words.space.Tie as tie
+
+abbrev Inv-loop : tie.InvT-loop
+Inv-loop line k before₀ i₀ before i = i ≤ length line
+
+abbrev μ-loop : tie.MeasureT-loop
+μ-loop line k before₀ i₀ before i = length line - i
+
+loop-holds : tie.Need-loop-holds Inv-loop μ-loop
+loop-holds c = omega arith
+
+shared-slice-read-if1 : tie.Need-shared-slice-read-if1 Inv-loop μ-loop
+shared-slice-read-if1 c = omega arith
+
+returns : tie.Need-returns Inv-loop μ-loop
+returns c = omega arith
+
+sub-before : tie.Need-sub-before Inv-loop μ-loop
+sub-before c = omega arith
+
+add-i : tie.Need-add-i Inv-loop μ-loop
+add-i c = omega arith
+
+loop-less : tie.Need-loop-less Inv-loop μ-loop
+loop-less c = omega arith
+
+loop-again : tie.Need-loop-again Inv-loop μ-loop
+loop-again c = omega arith
+
+returns-2 : tie.Need-returns-2 Inv-loop μ-loop
+returns-2 c = omega arith
+
+pub space-spec : {M : Type 1} → statement M
+space-spec =
+    tie.close
+    (tie.spec
+    Inv-loop
+    μ-loop
+    loop-holds
+    shared-slice-read-if1
+    returns
+    sub-before
+    add-i
+    loop-less
+    loop-again
+    returns-2)
