@@ -5,6 +5,3 @@ pub mod Gathering
 pub mod ValueReply
 pub mod Outcomes
 pub mod Ranges
-pub mod Promises
-pub mod Kept
-pub mod Examples

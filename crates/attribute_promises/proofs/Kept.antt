@@ -22,9 +22,9 @@ use Rattle.apdu.specs.Sound.{partFits, partsFit}
 use Rattle.directory.specs.declared.Row.{Row}
 use Rattle.directory.specs.Directory.{noRow, areaOctets, sameArea, shareOctet, clashes, apartFrom, allApart, eachSound, soundDirectory, indexOf, knownIn, rowOf}
 use Rattle.directory.proofs.Looking.{sound-row, inside-area, in-writable}
 use Rattle.attributes.specs.Serving.{Attribute, denied, setFault, setFaults, setRow, setRows, valueOf}
-use Rattle.attributes.specs.Promises.{Unnamed}
-use Rattle.attributes.proofs.Promises.{set-value, set-leaves, set-factory-left}
+use Rattle.attribute_promises.specs.Promises.{Unnamed}
+use Rattle.attribute_promises.proofs.Promises.{set-value, set-leaves, set-factory-left}
 
 -- ---- rows with different ids share no octet
 
@@ -200,7 +200,7 @@ module _ (s : List ℕ) (rows : List Row) (exact : Bool) (f : List ℕ) (id : �
       row-kept rest (setRow s rows a w) g (p .1) (q .1) (u .1) ∙ one-kept s rows exact f w h a (p .0) (q .0) id (u .0) k
 
 -- without the tag's exact credentials no protected row is named
-unnamed-if : (rows : List Row) (id : ℕ) → rowOf id rows .protected ≡ true → (attributes : List Attribute) → firstOf (setFaults rows false attributes) ≡ 0 → Unnamed id attributes
+pub unnamed-if : (rows : List Row) (id : ℕ) → rowOf id rows .protected ≡ true → (attributes : List Attribute) → firstOf (setFaults rows false attributes) ≡ 0 → Unnamed id attributes
 unnamed-if rows id g [] z = tt
 unnamed-if rows id g (a ∷ rest) z =
     let p = fine-first rows false a rest z in
@@ -210,12 +210,6 @@ unnamed-if rows id g (a ∷ rest) z =
     no p e =
         let h : denied false (rowOf id rows) ≡ false = ap (λ (i : ℕ). denied false (rowOf i rows)) (sym e) ∙ p .0 .free in
         never (sym h ∙ denied-shut (rowOf id rows) g)
-
--- so its octets stay
-pub protected-kept : (s : List ℕ) (rows : List Row) (f : List ℕ) (id : ℕ) → knownIn id rows ≡ true → rowOf id rows .protected ≡ true → (attributes : List Attribute) (w : List ℕ)
-    → soundDirectory (length f) (length w) rows ≡ true → firstOf (setFaults rows false attributes) ≡ 0 → partsFit (length s) attributes ≡ true
-    → valueOf f (setRows s rows attributes w) (rowOf id rows) ≡ valueOf f w (rowOf id rows)
-protected-kept s rows f id k g attributes w h z i = row-kept s rows false f id k attributes w h z i (unnamed-if rows id g attributes z)
 
 -- a row holds the value that the last attribute with its id has
 module _ (s : List ℕ) (rows : List Row) (exact : Bool) (f : List ℕ) (a : Attribute) (ys : List Attribute) (last : Unnamed (a .id) ys) where

@@ -31,9 +31,9 @@ use Rattle.apdu_writing.specs.Answer.{writeRefusal, answered, writeAnswer, writ
 use Rattle.apdu_writing.proofs.RoundTrip.{written-reads}
 use Rattle.directory.specs.declared.Row.{Row}
 use Rattle.directory.specs.Directory.{knownIn, rowOf, soundDirectory}
 use Rattle.attributes.specs.Serving.{Attribute, Tag, Reply, Outcome, refused, refusedAt, silent, replied, Effect, effect, noEntries, exact, denied, getFault, getFaults, idsFrom, rowsOf, valuesIn, getStatus, setStatus, setRow, setRows, valueOf, getReply, getRefusal, setReply, echoReply, writes, sent, tooLong, getting, setting, carried, served, byReading, requested, leastOutput}
-use Rattle.attributes.specs.Promises.{Short, ReadsBack, SameReply, AgreeOpen, holdsExact, Without}
+use Rattle.attribute_promises.specs.Promises.{Short, ReadsBack, SameReply, AgreeOpen, holdsExact, Without}
 use Rattle.attributes.specs.Inside.{tagOf}
 
 abbrev isReply : Outcome → Bool
 isReply (refused k) = false
