@@ -1,40 +1,18 @@
 #!/bin/sh
 # Runs the bench program and the second program on the stored recordings and on random ones, and compares what they print octet for octet.
 #   tests/bench/run.sh [SEED [RECORDINGS [LINES]]]
-# It needs target/bin/bench (`rt check bench`), and builds the second program from tests/second where target/second has none.
+# It needs target/bin/bench (`rt check bench`), and builds the second program from tests/second.
 set -u
 cd "$(dirname "$0")/../.." || exit 1
 seed=${1:-20260}
 recordings=${2:-60}
 lines=${3:-3000}
-bench=target/bin/bench
-second=target/second/release/second
-passed=0
-failed=0
-
-if [ ! -x "$bench" ]; then
-    echo "bench: $bench is missing: run 'rt check bench' first"
-    exit 1
-fi
-if [ ! -x "$second" ]; then
-    cargo build --quiet --release --offline --manifest-path tests/second/Cargo.toml --target-dir target/second || exit 1
-fi
-work=$(mktemp -d) || exit 1
-trap 'rm -rf "$work"' EXIT
-
-# same NAME EXPECTED FOUND
-same() {
-    if cmp -s "$2" "$3"; then
-        passed=$((passed + 1))
-    else
-        failed=$((failed + 1))
-        echo "FAILED $1: $(cmp "$2" "$3" 2>&1)"
-    fi
-}
+program=bench
+. tests/compare.sh
 
 # stored NAME INPUT OUTPUT: all three print what is stored
 stored() {
-    "$bench" <"$2" >"$work/bench"
+    "$proved" <"$2" >"$work/bench"
     "$second" bench <"$2" >"$work/table"
     "$second" bench-ledger <"$2" >"$work/ledger"
     same "$1 bench" "$3" "$work/bench"
@@ -46,17 +24,17 @@ stored case crates/bench/stdin crates/bench/stdout
 stored every_refusal tests/bench/every_refusal.stdin tests/bench/every_refusal.stdout
 
 # input that comes a few octets at a time, and no input
-dd if=tests/bench/every_refusal.stdin bs=13 2>/dev/null | "$bench" >"$work/bench"
+dd if=tests/bench/every_refusal.stdin bs=13 2>/dev/null | "$proved" >"$work/bench"
 same "every_refusal in parts" tests/bench/every_refusal.stdout "$work/bench"
 printf 'line answer octets dropped\naccepted 0 delivered 0 dropped 0 held 0\n' >"$work/empty"
-"$bench" </dev/null >"$work/bench"
+"$proved" </dev/null >"$work/bench"
 same "no input" "$work/empty" "$work/bench"
 
 i=0
 while [ "$i" -lt "$recordings" ]; do
     n=$((seed + i))
     "$second" recording "$n" "$lines" >"$work/lines" || exit 1
-    "$bench" <"$work/lines" >"$work/bench"
+    "$proved" <"$work/lines" >"$work/bench"
     "$second" bench <"$work/lines" >"$work/table"
     "$second" bench-ledger <"$work/lines" >"$work/ledger"
     same "recording $n bench against table" "$work/table" "$work/bench"
@@ -65,5 +43,4 @@ while [ "$i" -lt "$recordings" ]; do
 done
 
 echo "seeds $seed to $((seed + recordings - 1)), $recordings recordings of $lines lines"
-echo "bench: $passed passed, $failed failed"
-[ "$failed" -eq 0 ]
+finish

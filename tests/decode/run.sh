@@ -1,40 +1,18 @@
 #!/bin/sh
 # Runs decode and the second program on the stored messages and on random and damaged ones, and compares what they print octet for octet.
 #   tests/decode/run.sh [SEED [FILES [LINES]]]
-# It needs target/bin/decode (`rt check decode`), and builds the second program from tests/second where target/second has none.
+# It needs target/bin/decode (`rt check decode`), and builds the second program from tests/second.
 set -u
 cd "$(dirname "$0")/../.." || exit 1
 seed=${1:-40260}
 files=${2:-25}
 lines=${3:-8000}
-decode=target/bin/decode
-second=target/second/release/second
-passed=0
-failed=0
-
-if [ ! -x "$decode" ]; then
-    echo "decode: $decode is missing: run 'rt check decode' first"
-    exit 1
-fi
-if [ ! -x "$second" ]; then
-    cargo build --quiet --release --offline --manifest-path tests/second/Cargo.toml --target-dir target/second || exit 1
-fi
-work=$(mktemp -d) || exit 1
-trap 'rm -rf "$work"' EXIT
-
-# same NAME EXPECTED FOUND
-same() {
-    if cmp -s "$2" "$3"; then
-        passed=$((passed + 1))
-    else
-        failed=$((failed + 1))
-        echo "FAILED $1: $(cmp "$2" "$3" 2>&1)"
-    fi
-}
+program=decode
+. tests/compare.sh
 
 # stored NAME INPUT OUTPUT: both print what is stored
 stored() {
-    "$decode" <"$2" >"$work/decode"
+    "$proved" <"$2" >"$work/decode"
     "$second" decode <"$2" >"$work/second"
     same "$1 decode" "$3" "$work/decode"
     same "$1 second" "$3" "$work/second"
@@ -45,28 +23,27 @@ stored cases tests/decode/cases.stdin tests/decode/cases.stdout
 stored pictures tests/decode/pictures.stdin tests/decode/pictures.stdout
 
 # input that comes a few octets at a time, no input, a last line without line feed, and lines at and above the longest
-dd if=tests/decode/cases.stdin bs=7 2>/dev/null | "$decode" >"$work/decode"
+dd if=tests/decode/cases.stdin bs=7 2>/dev/null | "$proved" >"$work/decode"
 same "cases in parts" tests/decode/cases.stdout "$work/decode"
 printf 'line answer\nmessages 0 refused 0 same 0\n' >"$work/expected"
-"$decode" </dev/null >"$work/decode"
+"$proved" </dev/null >"$work/decode"
 same "no input" "$work/expected" "$work/decode"
 printf 'line answer\n1 event-request mode=0 eid=0 type=0\nmessages 1 refused 0 same 1\n' >"$work/expected"
-printf '200000' | "$decode" >"$work/decode"
+printf '200000' | "$proved" >"$work/decode"
 same "no line feed" "$work/expected" "$work/decode"
 printf 'line answer\n1 refused-21 at 512\n2 refused-0\n3 refused-0\n4 refused-13 at 0\nmessages 0 refused 4 same 0\n' >"$work/expected"
-awk 'BEGIN { for (n = 2048; n <= 2050; n++) { s = ""; for (i = 0; i < n; i++) s = s "0"; print s }; print "" }' | "$decode" >"$work/decode"
+awk 'BEGIN { for (n = 2048; n <= 2050; n++) { s = ""; for (i = 0; i < n; i++) s = s "0"; print s }; print "" }' | "$proved" >"$work/decode"
 same "longest lines" "$work/expected" "$work/decode"
 
 i=0
 while [ "$i" -lt "$files" ]; do
     n=$((seed + i))
     "$second" messages "$n" "$lines" >"$work/lines" || exit 1
-    "$decode" <"$work/lines" >"$work/decode"
+    "$proved" <"$work/lines" >"$work/decode"
     "$second" decode <"$work/lines" >"$work/second"
     same "messages $n" "$work/second" "$work/decode"
     i=$((i + 1))
 done
 
 echo "seeds $seed to $((seed + files - 1)), $files files of $lines lines"
-echo "decode: $passed passed, $failed failed"
-[ "$failed" -eq 0 ]
+finish

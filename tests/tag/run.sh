@@ -7,32 +7,12 @@ set -u
 cd "$(dirname "$0")/../.." || exit 1
 seed=${1:-20260}
 scripts=${2:-5000}
-tag=target/bin/tag
-second=target/second/release/second
-passed=0
-failed=0
-
-if [ ! -x "$tag" ]; then
-    echo "tag: $tag is missing: run 'rt check tag' first"
-    exit 1
-fi
-cargo build --quiet --release --offline --manifest-path tests/second/Cargo.toml --target-dir target/second || exit 1
-work=$(mktemp -d) || exit 1
-trap 'rm -rf "$work"' EXIT
-
-# same NAME EXPECTED FOUND
-same() {
-    if cmp -s "$2" "$3"; then
-        passed=$((passed + 1))
-    else
-        failed=$((failed + 1))
-        echo "FAILED $1: $(cmp "$2" "$3" 2>&1)"
-    fi
-}
+program=tag
+. tests/compare.sh
 
 # answered INPUT OUTPUT: the tag's answers, and its exit status if it is not 0
 answered() {
-    "$tag" <"$1" >"$2" || echo "exit status $?" >>"$2"
+    "$proved" <"$1" >"$2" || echo "exit status $?" >>"$2"
 }
 
 # what the stored scripts print, by both programs
@@ -46,7 +26,7 @@ for input in crates/tag/stdin tests/tag/*.stdin; do
 done
 
 # input that comes a few octets at a time, and no input
-dd if=tests/tag/lines.stdin bs=13 2>/dev/null | "$tag" >"$work/tag"
+dd if=tests/tag/lines.stdin bs=13 2>/dev/null | "$proved" >"$work/tag"
 same "lines in parts" tests/tag/lines.stdout "$work/tag"
 echo 'line answer' >"$work/empty"
 answered /dev/null "$work/tag"
@@ -68,5 +48,4 @@ passed=$((passed + scripts - different))
 failed=$((failed + different))
 
 echo "seeds $seed to $((seed + scripts - 1)), $scripts scripts"
-echo "tag: $passed passed, $failed failed"
-[ "$failed" -eq 0 ]
+finish

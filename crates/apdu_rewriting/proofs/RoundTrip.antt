@@ -103,13 +103,13 @@ module _ (s t : List ℕ) (m : Message) (es : List Entry) (rs : List Row) (w : W
 
 -- an answer that says a message is one
 record Told (s : List ℕ) (l : Lists) (a : Answer) (vs : List Value) : Type 0 where
-  now : Message
-  is : a ≡ answer.Message now
-  values : valuesOf s now (l .entries) (l .rows) ≡ vs
+  back : Message
+  is : a ≡ answer.Message back
+  values : valuesOf s back (l .entries) (l .rows) ≡ vs
 
 told-message : (s : List ℕ) (l : Lists) (end : ℕ) (a : Answer) (vs : List Value) (n : ℕ) → told s l end a ≡ message vs n → Told s l a vs
 unfolding told
-told-message s l end (answer.Message m) vs n e = record { now = m; is = refl; values = cc }
+told-message s l end (answer.Message m) vs n e = record { back = m; is = refl; values = cc }
 told-message s l end (answer.Refused k p) vs n e = let z : _≡_ {A = ℕ} 0 1 = cc in absurd (omega arith)
 
 pub reading-written : ReadingWritten
@@ -117,7 +117,7 @@ unfolding ReadingWritten outcomeOf
 reading-written s t m es rs r w h =
     let a = read-as s t m es rs w in
     let q = told-message s (r .lists) (r .end) (r .answer) (a .us) (8 * length s) (h .outcome ∙ a .is) in
-    record { now = q .now; is = q .is; same = rw (q .values) (a .same) }
+    record { back = q .back; is = q .is; same = rw (q .values) (a .same) }
 
 -- ---- reading accepts exactly what writing gives
 
@@ -125,5 +125,5 @@ pub reading-exact : ReadingExact
 unfolding ReadingExact ReadingWritten
 reading-exact s r o h = (
   (λ a. record { t = s; m = a .m; es = r .lists .entries; rs = r .lists .rows; is = back s r (a .m) o (record { reads = h; is = a .is }) .passes }),
-  (λ w. let b = reading-written s (w .t) (w .m) (w .es) (w .rs) r (w .is) h in record { m = b .now; is = b .is }),
+  (λ w. let b = reading-written s (w .t) (w .m) (w .es) (w .rs) r (w .is) h in record { m = b .back; is = b .is }),
 )

@@ -50,9 +50,9 @@ WritingRead = (s : List ℕ) (r : Reading) (m : Message) → Octets s → ReadsM
 
 -- reading what was written gives a message, and it is the same: all fields and the strings' bits agree, wherever the strings stand
 pub record ReadBack (s t : List ℕ) (m : Message) (es : List Entry) (rs : List Row) (r : Reading) : Type 0 where
-  pub now : Message
-  pub is : r .answer ≡ answer.Message now
-  pub same : Same (valuesOf s now (r .lists .entries) (r .lists .rows)) (valuesOf t m es rs)
+  pub back : Message
+  pub is : r .answer ≡ answer.Message back
+  pub same : Same (valuesOf s back (r .lists .entries) (r .lists .rows)) (valuesOf t m es rs)
 
 unfoldable pub ReadingWritten : Type 0
 ReadingWritten = (s t : List ℕ) (m : Message) (es : List Entry) (rs : List Row) (r : Reading) → WrittenAs s t m es rs → Reads s r → ReadBack s t m es rs r
