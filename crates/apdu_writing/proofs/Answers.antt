@@ -1,18 +1,21 @@
 -- What `write` answers, one law for each way out.
 -- Assumes nothing.
-use Prim.Native.Nat.{ℕ, _+_, _*_, _/_, _≤_, _<_}
+use Prim.Native.Nat.{ℕ, zero, suc, _+_, _*_, _/_, _≤_, _<_}
 use mathlib.Core.Path.{_≡_, refl, ap, sym, _∙_}
 use mathlib.Core.List.{List, [], _∷_, _++_, append-nil}
 use mathlib.Core.Bool.{Bool, true, false, _&&_, not}
 use mathlib.Core.Logic.{_⊎_, inl, inr}
 use native.Mathlib.Omega.{arith}
-use lib.ListN.{length, drop, length-append, length-drop}
+use lib.ListN.{length, drop, replicate}
 use lib.Dec.{ltb}
-use borrow.Author.Tests.{lt-ltb, le-ltb, ltb-true, ltb-false, not-true, not-false}
+use borrow.Author.Tests.{lt-ltb, le-ltb, le-leb, ltb-true, ltb-false, not-true, not-false}
 use Rattle.refusals.specs.Check.{firstOf}
 use Rattle.refusals.proofs.Tests.{by-cases, and-true, and-left, and-right}
 use Rattle.bits.specs.Bits.{Bits, Octets, bits, octets, putBits}
-use Rattle.bits.proofs.Laws.{below-append, below-drop, drop-bits, octets-bits, octets-small, bits-octets, bits-append, length-octets}
+use Rattle.bits.specs.Strings.{isInside, stringAt, copyFits, copyString}
+use Rattle.bits.proofs.Laws.{below-nil, below-cons, octets-small, bits-octets, length-octets}
+use Rattle.bits.proofs.Put.{length-put}
+use Rattle.bits.proofs.Strings.{string-put}
 use Rattle.apdu_format.specs.Component.{choice}
 use Rattle.apdu_format.specs.Reading.{Value}
 use Rattle.apdu_format.specs.Writing.{Pen, written, none, inRange, encode, size, encodedOctets}
@@ -30,20 +33,17 @@ use Rattle.apdu_writing.specs.Answer.{octets as so-many}
 use Rattle.apdu_writing.proofs.Levels.{writes-none}
 use Rattle.apdu_writing.proofs.Chains.{near-is}
 
--- ---- the octets of an output
+-- an empty page
+pub blank : (n : ℕ) → Octets (replicate n 0)
+blank zero = below-nil (omega arith)
+blank (suc n) = below-cons (omega arith) (blank n)
 
--- whole octets written to the front, and the others as they were
-front : (o l : List ℕ) (n : ℕ) → Octets o → Bits l → length l ≡ 8 * n → n ≤ length o → putBits o 0 l ≡ octets n l ++ drop n o
-unfolding putBits
-front o l n h small e k =
-    let x = octets n l in
-    let y = x ++ drop n o in
-    let d : 0 + length l ≡ 8 * n = omega arith in
-    let a : l ++ drop (0 + length l) (bits o) ≡ bits y ++ [] =
-    ap (λ (i : ℕ). l ++ drop i (bits o)) d ∙ ap (λ (t : List ℕ). l ++ t) (drop-bits n o) ∙ ap (λ (t : List ℕ). t ++ bits (drop n o)) (sym (bits-octets n l small e))
-    ∙ sym (bits-append x (drop n o)) ∙ sym (append-nil (bits y)) in
-    let m : length o ≡ length y = omega (arith, length-append x (drop n o), length-octets n l, length-drop n o) in
-    ap (octets (length o)) a ∙ ap (λ (i : ℕ). octets i (bits y ++ [])) m ∙ octets-bits y [] (below-append (octets-small n l small) (below-drop n h))
+-- octets copied from the front of a page to the front of an output
+copied : (page out : List ℕ) (n : ℕ) → n ≤ length page → n ≤ length out → copyString page 0 n out 0 ≡ stringAt page 0 n ++ drop n out
+unfolding copyString copyFits isInside
+copied page out n h k =
+    let z : 0 + n ≡ n = omega arith in
+    rw (le-leb (0 + 8 * n) (8 * length page) (omega arith), le-leb (0 + n) (length out) (omega arith)) (ap (λ (i : ℕ). stringAt page 0 n ++ drop i out) z)
 
 -- ---- what was written
 
@@ -76,12 +76,19 @@ module _ {s : Bool} {vs : List Value} {r : Quill} {o o' : List ℕ} (p : Puts s 
         zero-plus : (n : ℕ) → 0 + n ≡ n
         zero-plus n = omega arith
 
-    pub inked : Octets o → size vs ≤ 512 → size vs ≤ length o → o' ≡ encodedOctets vs ++ drop (size vs) o
+    pub inked : Octets o → size vs ≤ 512 → size vs ≤ length o → (length o' ≡ length o) × (stringAt o' 0 (size vs) ≡ encodedOctets vs)
     unfolding encodedOctets
     inked h a b =
         let g = p .good ok in
-        let n : length (g .w) ≡ 8 * size vs = ap length (sym encoded) ∙ long in
-        g .ink h (omega arith) (omega arith) ∙ ap (putBits o 0) (sym encoded) ∙ front o (encode vs) (size vs) h (rw encoded (g .small)) long b
+        let x = octets (size vs) (encode vs) in
+        let small : Bits (encode vs) = rw encoded (g .small) in
+        let n : length x ≡ size vs = length-octets (size vs) (encode vs) in
+        let w : length (g .w) ≡ 8 * size vs = ap length (sym encoded) ∙ long in
+        let e : o' ≡ putBits o 0 (bits x) = g .ink h (omega arith) (omega arith) ∙ ap (putBits o 0) (sym encoded ∙ sym (bits-octets (size vs) (encode vs) small long)) in (
+          ap length e ∙ length-put o 0 (bits x),
+          ap (λ (l : List ℕ). stringAt l 0 (size vs)) e ∙ ap (stringAt (putBits o 0 (bits x)) 0) (sym n)
+              ∙ string-put o 0 x (octets-small (size vs) (encode vs) small) (omega arith),
+        )
 
   pub out-of-range : r .ok ≡ false → (inRange vs && s) ≡ false
   unfolding inRange
@@ -156,11 +163,15 @@ module _ (s : List ℕ) (m : Message) (es : List Entry) (rs : List Row) (out : L
       unfolding writeAnswer writeOutput answered
       writes-22 h k = let a = at-is h in let e = refusal-22 (formed is-ok) (omega arith) (omega arith) in (rw e, rw e)
 
-      pub writes-octets : r .at / 8 ≤ 512 → r .at / 8 ≤ length out → Octets out → {q : Quill} {out' : List ℕ}
-          → Puts (sound (length s) m es rs) (choice ∷ []) startQuill q out out' (valuesOf s m es rs) → Told (so-many (r .at / 8)) out'
+      -- the page is as long as the longest message, and the message is copied from its front
+      pub writes-octets : r .at / 8 ≤ 512 → r .at / 8 ≤ length out → Octets o → length o ≡ 512 → {out' : List ℕ} → out' ≡ copyString o' 0 (r .at / 8) out 0
+          → Told (so-many (r .at / 8)) out'
       unfolding writeAnswer writeOutput answered
-      writes-octets h k octs {q} {out'} d =
+      writes-octets h k octs page d =
           let a = at-is h in
           let e = refusal-0 (formed is-ok) (omega arith) (omega arith) in
-          let again : q .ok ≡ true = by-cases (q .ok) (λ t. t) (λ t. never (sym (out-of-range d t) ∙ in-range p is-ok)) in
-          (rw (e, a), rw e (inked d again octs (omega arith) (omega arith)))
+          let i = inked p is-ok octs (omega arith) (omega arith) in
+          let l = i .0 in (
+            rw (e, a),
+            rw e (d ∙ copied o' out (r .at / 8) (omega arith) k ∙ ap (λ (n : ℕ). stringAt o' 0 n ++ drop n out) a ∙ ap (λ (x : List ℕ). x ++ drop (size vs) out) (i .1)),
+          )

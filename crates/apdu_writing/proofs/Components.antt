@@ -12,7 +12,7 @@ use lib.Dec.{ltb}
 use borrow.Author.Tests.{le-leb, le-ltb}
 use Rattle.refusals.specs.Check.{pick, firstOf}
 use Rattle.refusals.proofs.Tests.{by-cases, and-true, and-right}
-use Rattle.bits.specs.Bits.{bits, putBits, writeField, field}
+use Rattle.bits.specs.Bits.{bits, digits, putBits, writeField, field}
 use Rattle.bits.specs.Strings.{isInside, stringAt, writeFits, writeString}
 use Rattle.bits.proofs.Laws.{bits-small, below-drop, below-take, length-bits, digits-number}
 use Rattle.bits.proofs.Strings.{inside-le}
@@ -20,14 +20,14 @@ use Rattle.apdu_format.proofs.Values.{fits-value}
 use Rattle.apdu_format.specs.Component.{Component, integer, stringForm, stringLength, stringOctets}
 use Rattle.apdu_format.specs.Rules.{raw, shape, checksOf, brings, announced, when}
 use Rattle.apdu_format.specs.Reading.{Value, fields, string, numbersOf, sum, need, valueAt}
-use Rattle.apdu_format.specs.Writing.{bitsOf, fits, isValue, fieldsFit}
+use Rattle.apdu_format.specs.Writing.{bitsOf, fits, isValue, fieldBits, fieldsFit}
 use Rattle.apdu_format.proofs.Tests.{never}
 use Rattle.apdu.specs.Values.{num, str, if}
 use Rattle.apdu.proofs.Laws.{and-unit}
 use Rattle.apdu_writing.specs.declared.quill.Quill.{Quill}
 use Rattle.apdu_writing.specs.Quill.{behind, Put, Moves, Puts}
 use Rattle.apdu_writing.proofs.Chains.{nothing, idle, then}
-use Rattle.apdu_writing.proofs.Leaves.{packed, leaf, in-number}
+use Rattle.apdu_writing.proofs.Leaves.{packed, pack, leaf, leaf-two, in-number}
 
 -- ---- numbers
 
@@ -111,26 +111,33 @@ module _ (s : List ℕ) (start n : ℕ) where
     pub octets-by : Puts (isInside (length s) start n) (stringOctets n ∷ []) c r o o' (octetsValue ∷ [])
     octets-by = by-cases (isInside (length s) start n) (λ h. rw h (octets-inside h)) (λ h. rw h (octets-outside h))
 
--- an octet string: its form, its length and its octets
-module _ (s : List ℕ) (start n : ℕ) {c d e : Quill} {o o₁ o₂ : List ℕ} (form : Put 1 true c d (writeField o (c .at) 1 0) o o₁)
-    (long : Put 7 (ltb n 128) d e (writeField o₁ (d .at) 7 n) o₁ o₂) where
-  length-by : Moves true (stringForm ∷ []) (stringOctets n ∷ []) c e o o₂ (fields (0 ∷ []) ∷ fields (n ∷ []) ∷ [])
-  unfolding brings announced sum numbersOf
-  length-by =
-      then
-      (leaf stringForm (fields (0 ∷ [])) form
-      (in-number stringForm (1 ∷ []) (0 ∷ []) 0 true (c .room) o (c .at) (unfold shape in refl) (omega arith) (unfold isValue fits shape fieldsFit checksOf firstOf numbersOf in refl) (λ g. unfold packed in refl))
-      refl)
-      (leaf stringLength (fields (n ∷ [])) long
-      (in-number stringLength (7 ∷ []) (n ∷ []) n (ltb n 128) (d .room) o₁ (d .at) (unfold shape in refl) (omega arith)
-      (unfold isValue fits shape fieldsFit checksOf firstOf numbersOf in sym (and-unit (ltb n 128 && true) ∙ and-unit (ltb n 128))) (λ g. unfold packed in omega arith))
-      refl)
+form-bits : (n : ℕ) → fieldBits (1 ∷ 7 ∷ []) (0 ∷ n ∷ []) ≡ bitsOf (shape stringForm) (fields (0 ∷ [])) ++ bitsOf (shape stringLength) (fields (n ∷ []))
+unfolding bitsOf shape fieldBits digits numbersOf
+form-bits n = refl
 
-  pub string-by : {r : Quill} {o₃ : List ℕ} → Put (8 * n) (isInside (length s) start n) e r (writeString s start n o₂ (e .at)) o₂ o₃
-      → Puts (isInside (length s) start n) (stringForm ∷ []) c r o o₃ (str s start n)
+-- the form and the length of a string are one octet
+form-length : (n : ℕ) → ltb n 128 ≡ true → digits 8 n ≡ bitsOf (shape stringForm) (fields (0 ∷ [])) ++ bitsOf (shape stringLength) (fields (n ∷ []))
+unfolding packed sum fieldsFit
+form-length n g =
+    let v : n ≡ packed (1 ∷ 7 ∷ []) (0 ∷ n ∷ []) = omega arith in
+    let f : fieldsFit (1 ∷ 7 ∷ []) (0 ∷ n ∷ []) ≡ true = rw g in
+    ap (digits 8) v ∙ pack (1 ∷ 7 ∷ []) (0 ∷ n ∷ []) f ∙ form-bits n
+
+-- an octet string: its form and its length, and its octets
+module _ (s : List ℕ) (start n : ℕ) {c e : Quill} {o o₁ : List ℕ} (long : Put 8 (ltb n 128) c e (writeField o (c .at) 8 n) o o₁) where
+  length-by : Moves true (stringForm ∷ []) (stringOctets n ∷ []) c e o o₁ (fields (0 ∷ []) ∷ fields (n ∷ []) ∷ [])
+  unfolding brings announced numbersOf
+  length-by =
+      leaf-two stringForm stringLength (fields (0 ∷ [])) (fields (n ∷ [])) n long (omega arith) refl refl refl
+      (unfold isValue fits shape fieldsFit checksOf firstOf numbersOf in refl)
+      (unfold isValue fits shape fieldsFit checksOf firstOf numbersOf in sym (and-unit (ltb n 128 && true) ∙ and-unit (ltb n 128)))
+      (form-length n)
+
+  pub string-by : {r : Quill} {o₂ : List ℕ} → Put (8 * n) (isInside (length s) start n) e r (writeString s start n o₁ (e .at)) o₁ o₂
+      → Puts (isInside (length s) start n) (stringForm ∷ []) c r o o₂ (str s start n)
   string-by p = then length-by (octets-by s start n p)
 
-  pub string-long : 127 < n → Puts (isInside (length s) start n) (stringForm ∷ []) c e o o₂ (str s start n)
+  pub string-long : 127 < n → Puts (isInside (length s) start n) (stringForm ∷ []) c e o o₁ (str s start n)
   string-long h =
-      let no : e .ok ≡ false = ap (λ (z : Quill). z .ok) (long .is) ∙ unfold behind in and-right (d .ok) (le-ltb n 128 (omega arith)) in
+      let no : e .ok ≡ false = ap (λ (z : Quill). z .ok) (long .is) ∙ unfold behind in and-right (c .ok) (le-ltb n 128 (omega arith)) in
       then length-by (idle no no)

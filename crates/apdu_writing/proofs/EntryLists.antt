@@ -19,7 +19,7 @@ use Rattle.apdu_format.specs.Writing.{fits, isValue, fieldsFit}
 use Rattle.apdu_format.proofs.Tests.{never}
 use Rattle.apdu.specs.declared.lists.Row.{Row}
 use Rattle.apdu.specs.declared.lists.Entry.{Entry}
-use Rattle.apdu.specs.Values.{bitOf, num, num-if, if, containerValues, entryValues, entriesValues, rowsOf, emptyEntry}
+use Rattle.apdu.specs.Values.{bitOf, num, num-if, if, containerValues, entryValues, entriesValues, entryRows, rowsOf, emptyEntry}
 use Rattle.apdu.proofs.Laws.{and-unit, rows-of-snoc, entries-snoc, sound-snoc}
 use Rattle.apdu_writing.specs.declared.quill.Quill.{Quill}
 use Rattle.apdu.specs.Sound.{soundIf, containerSound, entrySound, entriesSound}
@@ -56,13 +56,14 @@ module _ (e : Entry) where
       brought : when (isSet fs 0) (integer ∷ []) ++ when (isSet fs 1) (container 1 ∷ []) ≡ when (e .«has_eid») (integer ∷ []) ++ when (e .«has_parameter») (container 1 ∷ [])
       brought = rw (is-set (e .«has_eid»), is-set (e .«has_parameter»))
 
-  pub entry-by : (s : List ℕ) (rs : List Row) {x y z : ℕ} {c d f r : Quill} {o o₁ o₂ o₃ : List ℕ} → x ≡ bitOf (e .«has_eid») → y ≡ bitOf (e .«has_parameter») → Small (e .aid) 32 z
+  -- with its own rows, at the front of rs
+  pub entry-by : (s : List ℕ) (rs : List Row) {own x y z : ℕ} {c d f r : Quill} {o o₁ o₂ o₃ : List ℕ} → own ≡ entryRows e → x ≡ bitOf (e .«has_eid») → y ≡ bitOf (e .«has_parameter») → Small (e .aid) 32 z
       → Put 8 (ltb (e .aid) 32) c d (writeField o (c .at) 8 (128 * x + 64 * y + z)) o o₁
       → Puts true (when (e .«has_eid») (integer ∷ [])) d f o₁ o₂ (num-if (e .«has_eid») (e .eid))
-      → Puts (soundIf (e .«has_parameter») (containerSound (length s) (e .kind) (e .n) (e .start) rs)) (when (e .«has_parameter») (container 1 ∷ [])) f r o₂ o₃ (if (e .«has_parameter») (containerValues s (e .kind) (e .n) (e .start) rs))
-      → Puts (entrySound (length s) e rs) (entry ∷ []) c r o o₃ (entryValues s e rs)
+      → Puts (soundIf (e .«has_parameter») (containerSound (length s) (e .kind) (e .n) (e .start) (take own rs))) (when (e .«has_parameter») (container 1 ∷ [])) f r o₂ o₃ (if (e .«has_parameter») (containerValues s (e .kind) (e .n) (e .start) (take own rs)))
+      → Puts (entrySound (length s) e (take (entryRows e) rs)) (entry ∷ []) c r o o₃ (entryValues s e (take (entryRows e) rs))
   unfolding entrySound entryValues
-  entry-by s rs p q g m eid par = then (entry-lead p q g m) (and-then eid par)
+  entry-by s rs h p q g m eid par = then (entry-lead p q g m) (and-then eid (rw h at par))
 
 -- ---- the first i of these entries are written
 
@@ -85,11 +86,11 @@ module _ (es : List Entry) (from n i : ℕ) (e : length es ≡ 32) (f : from ≤
   all-entry h = sym (getD-drop from es i emptyEntry) ∙ sym (getD-take n (drop from es) i emptyEntry h)
 
   module _ {s : List ℕ} {rs : List Row} {first used : ℕ} {c d : Quill} {o o₁ : List ℕ} (p : Turns s all n rs first i used c d o o₁) where
-    pub turns-more : {w : Entry} {r : Quill} {o₂ : List ℕ} → w ≡ getD es (from + i) emptyEntry → i < n
-        → Puts (entrySound (length s) w (take (w .rows) (drop used rs))) (entry ∷ []) d r o₁ o₂ (entryValues s w (take (w .rows) (drop used rs)))
-        → Turns s all n rs first (i + 1) (used + w .rows) c r o o₂
+    pub turns-more : {w : Entry} {own : ℕ} {r : Quill} {o₂ : List ℕ} → w ≡ getD es (from + i) emptyEntry → own ≡ entryRows w → i < n
+        → Puts (entrySound (length s) w (take (entryRows w) (drop used rs))) (entry ∷ []) d r o₁ o₂ (entryValues s w (take (entryRows w) (drop used rs)))
+        → Turns s all n rs first (i + 1) (used + own) c r o o₂
     unfolding times
-    turns-more {w} {r} x h q =
+    turns-more {w} x own h q =
         let t : take (i + 1) all ≡ take i all ++ (w ∷ []) =
         ap (λ (k : ℕ). take k all) (add-one i) ∙ take-suc all i emptyEntry (omega (arith, all-length)) ∙ ap (λ (y : Entry). take i all ++ (y ∷ [])) (sym (x ∙ all-entry h)) in
         let m : n - i ≡ suc (n - (i + 1)) = omega arith in

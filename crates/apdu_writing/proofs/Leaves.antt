@@ -2,7 +2,7 @@
 -- Assumes nothing.
 use Prim.Native.Nat.{ℕ, suc, _+_, _-_, _*_, _^_, _≤_, _<_}
 use mathlib.Core.Path.{_≡_, refl, ap, sym, _∙_}
-use mathlib.Core.List.{List, [], _∷_, _++_}
+use mathlib.Core.List.{List, [], _∷_, _++_, append-assoc}
 use mathlib.Core.Bool.{Bool, true, false, _&&_}
 use mathlib.Core.Logic.{inr}
 use native.Mathlib.Nat.{mul-le-mul-right, suc-mul}
@@ -18,7 +18,7 @@ use Rattle.bits.proofs.Laws.{digits-small, length-digits, digits-add, digits-ab
 use Rattle.apdu_format.specs.Component.{Component}
 use Rattle.apdu_format.specs.Rules.{widths, shape, checksOf, brings, announced}
 use Rattle.apdu_format.specs.Reading.{Value, fields, numbersOf, sum}
-use Rattle.apdu_format.specs.Writing.{bitsOf, fits, isValue, fieldBits, fieldsFit}
+use Rattle.apdu_format.specs.Writing.{Pen, bitsOf, fits, isValue, fieldBits, fieldsFit}
 use Rattle.apdu_format.proofs.Tests.{never, both}
 use Rattle.apdu_writing.specs.declared.quill.Quill.{Quill}
 use Rattle.apdu_writing.specs.Quill.{quill, least, behind, Put, penAt, writes, Moves}
@@ -66,6 +66,16 @@ pub record Writes (i : Component) (v : Value) (w : ℕ) (fine : Bool) (room : �
   pub long : fine ≡ true → length (bitsOf (shape i) v) ≡ w
   pub put : fine ≡ true → at + w ≤ 8 * length o → x ≡ putBits o at (bitsOf (shape i) v)
 
+least-least : (n : ℕ) → least (least n) ≡ least n
+least-least n = ap least (plus (least n)) ∙ least-add n 0 ∙ ap least (sym (plus n))
+  where
+    plus : (n : ℕ) → n ≡ n + 0
+    plus n = omega arith
+
+wrong : (a b : Bool) → a ≡ true → (a && b) ≡ false → b ≡ false
+wrong true b h k = k
+wrong false b h k = never h
+
 -- a quill that differs from r in its room only
 pub leaf-spent : (i : Component) (v : Value) {w : ℕ} {fine : Bool} {c r e : Quill} {x o o' : List ℕ}
     → Put w fine c r x o o' → Writes i v w fine (c .room) x o (c .at) → e ≡ quill (r .at) (r .room - announced i (numbersOf v)) (r .ok)
@@ -86,23 +96,13 @@ leaf-spent i v {w} {fine} {c} {r} {e} {x} {o} {o'} p q s =
             w = m;
             small = q .small (a .1);
             so = λ rest b. writes-fine i (c .room) v rest b (sym (q .range) ∙ a .1) ∙ ap (λ (k : ℕ). writes (brings i (numbersOf v)) (penAt rest k (b ++ m))) (sym room);
-            to = ap least at ∙ twice (c .at + w) ∙ ap (λ (k : ℕ). least (c .at + k)) (sym n);
+            to = ap least at ∙ least-least (c .at + w) ∙ ap (λ (k : ℕ). least (c .at + k)) (sym n);
             ink = λ octs near fits. p .out ∙ rw (and-true (a .0) (a .1)) (q .put (a .1) (omega arith));
           };
       bad = λ h k.
           let f : fine ≡ false = wrong (c .ok) fine k (sym ok ∙ h) in
           inr (record { so = λ rest b. writes-wrong i (c .room) v rest b (sym (q .range) ∙ f) });
     }
-  where
-    twice : (n : ℕ) → least (least n) ≡ least n
-    twice n = ap least (plus (least n)) ∙ least-add n 0 ∙ ap least (sym (plus n))
-      where
-        plus : (n : ℕ) → n ≡ n + 0
-        plus n = omega arith
-
-    wrong : (a b : Bool) → a ≡ true → (a && b) ≡ false → b ≡ false
-    wrong true b h k = k
-    wrong false b h k = never h
 
 pub leaf : (i : Component) (v : Value) {w : ℕ} {fine : Bool} {c r : Quill} {x o o' : List ℕ}
     → Put w fine c r x o o' → Writes i v w fine (c .room) x o (c .at) → announced i (numbersOf v) ≡ 0
@@ -130,3 +130,41 @@ in-number i ws fs n fine room o at s h e f =
     (λ g.
     let k : fieldsFit ws fs ≡ true = rw s at (both (fits (shape i) (fields fs)) (eqb (firstOf (checksOf i room fs)) 0) (sym e ∙ g) .0) in
     rw s (ap (digits (sum ws)) (f g) ∙ pack ws fs k))
+
+-- two components in one field of the code: the first, which is in range, brings the second
+pub leaf-two : (i j : Component) (v u : Value) (n : ℕ) {w : ℕ} {fine : Bool} {c r : Quill} {o o' : List ℕ} → Put w fine c r (writeField o (c .at) w n) o o' → w ≤ 48
+    → brings i (numbersOf v) ≡ j ∷ [] → announced i (numbersOf v) ≡ 0 → announced j (numbersOf u) ≡ 0 → isValue i (c .room) v ≡ true → fine ≡ isValue j (c .room) u
+    → (fine ≡ true → digits w n ≡ bitsOf (shape i) v ++ bitsOf (shape j) u) → Moves true (i ∷ []) (brings j (numbersOf u)) c r o o' (v ∷ u ∷ [])
+unfolding behind writeField fieldFits
+leaf-two i j v u n {w} {fine} {c} {r} {o} {o'} p h e k l here range f =
+    let ok : r .ok ≡ (c .ok && fine) = ap (λ (z : Quill). z .ok) (p .is) in
+    let room : r .room ≡ c .room = ap (λ (z : Quill). z .room) (p .is) in
+    let m = bitsOf (shape i) v ++ bitsOf (shape j) u in
+    let first : (rest : List Value) (b : List ℕ) → writes (i ∷ []) (penAt (v ∷ rest) (c .room) b) ≡ writes (j ∷ []) (penAt rest (c .room) (b ++ bitsOf (shape i) v)) = λ rest b.
+    writes-fine i (c .room) v rest b here ∙ ap (λ (q : List Component). writes q (penAt rest (c .room - announced i (numbersOf v)) (b ++ bitsOf (shape i) v))) e
+    ∙ ap (λ (q : ℕ). writes (j ∷ []) (penAt rest q (b ++ bitsOf (shape i) v))) (less (c .room) k) in
+    record {
+      good = λ g.
+          let a = both (c .ok) fine (sym ok ∙ g) in
+          let at : r .at ≡ least (c .at + w) = ap (λ (z : Quill). z .at) (p .is) ∙ rw (and-true (a .0) (a .1)) in
+          let d : digits w n ≡ m = f (a .1) in
+          let s : length m ≡ w = ap length (sym d) ∙ length-digits w n in
+          record {
+            holds = refl;
+            came = a .0;
+            w = m;
+            small = rw (← d) (digits-small w n);
+            so = λ rest b.
+                first (u ∷ rest) b ∙ writes-fine j (c .room) u rest (b ++ bitsOf (shape i) v) (sym range ∙ a .1)
+                ∙ ap (λ (q : ℕ). writes (brings j (numbersOf u)) (penAt rest q ((b ++ bitsOf (shape i) v) ++ bitsOf (shape j) u))) (less (c .room) l ∙ sym room)
+                ∙ ap (λ (q : List ℕ). writes (brings j (numbersOf u)) (penAt rest (r .room) q)) (append-assoc b (bitsOf (shape i) v) (bitsOf (shape j) u));
+            to = ap least at ∙ least-least (c .at + w) ∙ ap (λ (q : ℕ). least (c .at + q)) (sym s);
+            ink = λ octs near fits. p .out ∙ rw (and-true (a .0) (a .1), le-leb w 48 h, le-leb (c .at + w) (8 * length o) (omega arith)) (ap (putBits o (c .at)) d);
+          };
+      bad = λ g q.
+          let b : fine ≡ false = wrong (c .ok) fine q (sym ok ∙ g) in
+          inr (record { so = λ rest t. ap (λ (z : Pen). z .ok) (first (u ∷ rest) t) ∙ writes-wrong j (c .room) u rest (t ++ bitsOf (shape i) v) (sym range ∙ b) });
+    }
+  where
+    less : (a : ℕ) {n : ℕ} → n ≡ 0 → a - n ≡ a
+    less a e = omega arith

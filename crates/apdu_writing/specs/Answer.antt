@@ -1,4 +1,4 @@
--- What writing a message answers and leaves in the output (01, "Messages": "Writing checks 23, 21, 22"; refusal table, rows 21 to 23).
+-- What writing a message answers and leaves in the output (01, "Messages": 23 before 21 before 22; refusal table, rows 21 to 23).
 -- Assumes nothing.
 use Prim.Native.Nat.{ℕ}
 use mathlib.Core.List.{List, [], _∷_, _++_}

@@ -21,7 +21,7 @@ quill at room ok = record { at = at; room = room; ok = ok }
 -- ---- what the quill's functions compute
 
 abbrev pub far : ℕ
-far = 65536
+far = 32768
 
 -- a place, or the first that no message reaches
 unfoldable pub least : ℕ → ℕ

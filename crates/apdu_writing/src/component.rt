@@ -36,8 +36,7 @@ pub(crate) fn number_if(p: bool, n: u64, out: &mut [u8], c: Quill) -> Quill
 pub(crate) fn string(lent: &[u8], start: usize, n: u64, out: &mut [u8], c: Quill) -> Quill
     ensures { λ r. ⌜ Puts (isInside (length (now (lent .entry))) start n) (stringForm ∷ []) c r (now (out .entry)) (now (out .exit)) (str (now (lent .entry)) start n) ⌝ }
 {
-    let form = put(out, 1, 0, true, c);
-    let length = put(out, 7, n, n < 128, form);
+    let length = put(out, 8, n, n < 128, c);
     if 127 < n {
         return length;
     }

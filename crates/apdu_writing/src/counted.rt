@@ -32,7 +32,8 @@ pub(crate) fn entry_count(n: u64, out: &mut [u8], c: Quill) -> Quill
 pub(crate) fn row_count(depth: usize, n: u64, out: &mut [u8], c: Quill) -> Quill
     ensures { λ r. ⌜ Moves true (rowCount depth ∷ []) (times n (integer ∷ container depth ∷ [])) c r (now (out .entry)) (now (out .exit)) (num n ∷ []) ⌝ }
 {
-    let few = (n <= apdu::MOST_COUNTED) & (n <= c.room);
+    let room = c.room as u64;
+    let few = (n <= apdu::MOST_COUNTED) & (n <= room);
     spend(n, put(out, 8, n, few, c))
 }
 

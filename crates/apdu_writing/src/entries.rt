@@ -6,7 +6,7 @@ ghost use Prim.Native.Nat.{_+_, _<_, _≤_};
 ghost use lib.ListN.{length, take, drop};
 ghost use Rattle.apdu_format.specs.Component.{container, entry, entryCount};
 ghost use Rattle.apdu_format.specs.Rules.{when};
-ghost use Rattle.apdu.specs.Values.{if, containerValues, entryValues};
+ghost use Rattle.apdu.specs.Values.{if, containerValues, entryRows, entryValues};
 ghost use Rattle.apdu_writing.specs.Quill.{Puts};
 ghost use Rattle.apdu.specs.Sound.{soundIf, containerSound, entrySound};
 ghost use Rattle.apdu_writing.specs.Applications.{Listed};
@@ -19,6 +19,7 @@ use crate::quill::Quill;
 use crate::quill::put;
 use apdu::Entry;
 use apdu::Row;
+use apdu::entry_rows;
 
 // A parameter, if it is there, with the `count` rows of the table from `first` on.
 fn parameter(
@@ -50,7 +51,7 @@ fn application(
     out: &mut [u8],
     c: Quill,
 ) -> Quill
-    ensures { λ r. ⌜ Puts (entrySound (length (now (lent .entry))) e (take (e .rows) (drop first table))) (entry ∷ []) c r (now (out .entry)) (now (out .exit)) (entryValues (now (lent .entry)) e (take (e .rows) (drop first table))) ⌝ }
+    ensures { λ r. ⌜ Puts (entrySound (length (now (lent .entry))) e (take (entryRows e) (drop first table))) (entry ∷ []) c r (now (out .entry)) (now (out .exit)) (entryValues (now (lent .entry)) e (take (entryRows e) (drop first table))) ⌝ }
 {
     let v = 128 * bit(e.has_eid) + 64 * bit(e.has_parameter) + small(e.aid as u64, 32);
     let d = put(out, 8, v, e.aid < 32, c);
@@ -60,7 +61,7 @@ fn application(
         lent,
         table,
         first,
-        e.rows as usize,
+        entry_rows(e),
         e.kind as u64,
         e.n as u64,
         e.start,
@@ -99,7 +100,7 @@ pub(crate) fn applications(
     while i < n as usize {
         let e = list[from + i];
         q = application(lent, e, table, used, out, q);
-        used += e.rows as usize;
+        used += entry_rows(e);
         i += 1;
     }
     EntriesPut { quill: q, used }

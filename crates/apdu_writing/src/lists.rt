@@ -13,6 +13,7 @@ use crate::container::head;
 use crate::counted::ids;
 use crate::counted::row_count;
 use crate::quill::Quill;
+use crate::rows::halt;
 use crate::rows::rows;
 use apdu::Due;
 use apdu::Row;
@@ -33,9 +34,16 @@ pub(crate) fn boxed(
     ensures { λ r. ⌜ Puts (containerSound (length (now (lent .entry))) k n start (take count (drop first table))) (container 1 ∷ []) c r (now (out .entry)) (now (out .exit)) (containerValues (now (lent .entry)) k n start (take count (drop first table))) ⌝ }
 {
     let d = head(lent, 1, k, n, start, out, c);
+    let announced = announces(k, n);
+    if count == 0 {
+        if announced == 0 {
+            return d;
+        }
+        return halt(d);
+    }
     let due = Due {
         d1: 0,
-        d2: announces(k, n),
+        d2: announced,
         d3: 0,
         d4: 0,
         d5: 0,

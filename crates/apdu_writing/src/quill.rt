@@ -7,29 +7,30 @@ ghost use Rattle.bits.specs.Strings.{isInside, writeString};
 ghost use Rattle.apdu_writing.specs.Quill.{least, Put, spent};
 
 // at: the next bit, or FAR for any place from there on; room: how many attribute rows may still be announced; ok: whether all so far is in range.
+// The fields leave no gap, so that a quill is copied as one word.
 pub struct Quill {
-    pub at: usize,
-    pub room: u64,
+    pub at: u16,
+    pub room: u8,
     pub ok: bool,
 }
 
 // No message that is written reaches this place.
-pub(crate) const FAR: usize = 65536;
+pub(crate) const FAR: usize = 32768;
 
-fn beyond(at: usize, width: usize) -> usize
+fn beyond(at: u16, width: usize) -> u16
+    requires { ⌜ width ≤ 1024 ⌝ }
     ensures { λ r. ⌜ r ≡ least (at + width) ⌝ }
 {
-    if FAR <= at {
-        return FAR;
+    let place = at as usize + width;
+    if FAR <= place {
+        return FAR as u16;
     }
-    if FAR - at <= width {
-        return FAR;
-    }
-    at + width
+    place as u16
 }
 
 // Writes the `width` low bits of `v` where they fit, if `fine`.
 pub(crate) fn put(out: &mut [u8], width: usize, v: u64, fine: bool, c: Quill) -> Quill
+    requires { ⌜ width ≤ 48 ⌝ }
     ensures { λ r. ⌜ Put width fine c r (writeField (now (out .entry)) (c .at) width v) (now (out .entry)) (now (out .exit)) ⌝ }
 {
     if !c.ok {
@@ -42,7 +43,7 @@ pub(crate) fn put(out: &mut [u8], width: usize, v: u64, fine: bool, c: Quill) ->
             ok: false,
         };
     }
-    let w = bits::write_field(out, c.at, width, v);
+    let w = bits::write_field(out, c.at as usize, width, v);
     Quill {
         at: beyond(c.at, width),
         room: c.room,
@@ -65,7 +66,7 @@ pub(crate) fn put_octets(lent: &[u8], start: usize, n: usize, out: &mut [u8], c:
             ok: false,
         };
     }
-    let w = bits::write_string(lent, start, n, out, c.at);
+    let w = bits::write_string(lent, start, n, out, c.at as usize);
     Quill {
         at: beyond(c.at, 8 * n),
         room: c.room,
@@ -77,7 +78,8 @@ pub(crate) fn put_octets(lent: &[u8], start: usize, n: usize, out: &mut [u8], c:
 pub(crate) fn spend(n: u64, c: Quill) -> Quill
     ensures { λ r. ⌜ r ≡ spent n c ⌝ }
 {
-    if c.room < n {
+    let room = c.room as u64;
+    if room < n {
         return Quill {
             at: c.at,
             room: 0,
@@ -86,7 +88,7 @@ pub(crate) fn spend(n: u64, c: Quill) -> Quill
     }
     Quill {
         at: c.at,
-        room: c.room - n,
+        room: (room - n) as u8,
         ok: c.ok,
     }
 }

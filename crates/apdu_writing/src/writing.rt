@@ -48,40 +48,29 @@ pub fn write(
 ) -> ApduWritten
     ensures { λ r. ⌜ (answerOf r ≡ writeAnswer (now (lent .entry)) message entries rows (length (now (out .entry)))) × (now (out .exit) ≡ writeOutput (now (lent .entry)) message entries rows (now (out .entry))) ⌝ }
 {
-    let mut none: [u8; 1] = [0; 1];
-    let size = put_message(
+    let mut page: [u8; 512] = [0; 512];
+    let end = put_message(
         lent,
         message,
         entries,
         rows,
-        &mut none,
+        &mut page,
         Quill {
             at: 0,
             room: 32,
             ok: true,
         },
     );
-    if !size.ok {
+    if !end.ok {
         return ApduWritten::RecordOutOfRange;
     }
-    let octets = size.at / 8;
+    let octets = end.at as usize / 8;
     if apdu::LONGEST_MESSAGE < octets {
         return ApduWritten::MessageTooLong(apdu::LONGEST_MESSAGE);
     }
     if out.len() < octets {
         return ApduWritten::OutputTooSmall;
     }
-    let done = put_message(
-        lent,
-        message,
-        entries,
-        rows,
-        out,
-        Quill {
-            at: 0,
-            room: 32,
-            ok: true,
-        },
-    );
+    let copied = bits::copy_string(&page, 0, octets, out, 0);
     ApduWritten::Octets(octets)
 }

@@ -3,3 +3,4 @@ pub mod Put
 pub mod Window
 pub mod Strings
 pub mod Outcomes
+pub mod Aligned

@@ -86,6 +86,10 @@ module _ (s : List ℕ) (start : ℕ) (out : List ℕ) (at : ℕ) where
       regroup : (p l : List ℕ) (x : ℕ) (ys : List ℕ) → (p ++ l) ++ (x ∷ ys) ≡ p ++ ((l ++ (x ∷ [])) ++ ys)
       regroup p l x ys = append-assoc p l (x ∷ ys) ∙ ap (λ (r : List ℕ). p ++ r) (sym (append-assoc l (x ∷ []) ys))
 
+  pub copied-all : (k n : ℕ) {t : List ℕ} → t ≡ Copied s start out at k → k ≡ n → t ≡ take at out ++ (stringAt s start n ++ drop (at + n) out)
+  unfolding Copied
+  copied-all k n e f = rw f at e
+
   module _ (n : ℕ) where
     pub copy-outside : isInside (length s) start n ≡ false → (false ≡ copyFits s start n out at) × (out ≡ copyString s start n out at)
     unfolding copyFits copyString

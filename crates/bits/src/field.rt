@@ -30,6 +30,9 @@ fn window(s: &[u8], first: usize, n: usize) -> u64
     requires { ⌜ (n ≤ 7) × (first + n < 2 ^ 64) ⌝ }
     ensures { λ r. ⌜ (r ≡ field (now (s .entry)) (8 * first) (8 * n)) × (r < 2 ^ 56) ⌝ }
 {
+    if n == 1 {
+        return wide(octet(s, first));
+    }
     let mut v: u64 = 0;
     let mut k: usize = 0;
     while k < n {
@@ -64,6 +67,11 @@ pub fn read_field(s: &[u8], at: usize, width: usize) -> u64
     if WIDEST < width {
         return 0;
     }
+    if width == 8 {
+        if at % 8 == 0 {
+            return wide(octet(s, at / 8));
+        }
+    }
     field_in(s, at / 8, at % 8, width)
 }
 
@@ -80,6 +88,10 @@ fn put_window(out: &mut [u8], first: usize, n: usize, v: u64)
     requires { ⌜ first + n ≤ length (now out) ⌝ }
     ensures { λ _. ⌜ now (out .exit) ≡ take first (now (out .entry)) ++ bytes n v (drop (first + n) (now (out .entry))) ⌝ }
 {
+    if n == 1 {
+        out[first] = (v % 256) as u8;
+        return;
+    }
     let mut rest = v;
     let mut k = n;
     while 0 < k {
@@ -109,6 +121,15 @@ pub fn write_field(out: &mut [u8], at: usize, width: usize, v: u64) -> bool
     }
     let first = at / 8;
     let skip = at % 8;
+    if width == 8 {
+        if skip == 0 {
+            if out.len() <= first {
+                return false;
+            }
+            out[first] = (v % 256) as u8;
+            return true;
+        }
+    }
     if out.len() < first + (skip + width + 7) / 8 {
         return false;
     }

@@ -8,14 +8,11 @@ use Rattle.apdu_writing.proofs.component.string.Tie as tie
 put-requires : tie.Need-put-requires
 put-requires c κs = search needs
 
-put-requires-2 : tie.Need-put-requires-2
-put-requires-2 c κs = search needs
-
 same-length : tie.Need-same-length
 same-length c = search needs
 
 returns : tie.Need-returns
-returns c = string-long _ _ _ (c .before .before .before .before .before .before .before .put .ensures) (c .before .before .before .put2 .ensures) (c .if1 .taken)
+returns c = string-long _ _ _ (c .before .before .before .put .ensures) (c .if1 .taken)
 
 put-octets-requires : tie.Need-put-octets-requires
 put-octets-requires c κs = search needs
@@ -24,14 +21,13 @@ same-length-2 : tie.Need-same-length-2
 same-length-2 c = search needs
 
 returns-2 : tie.Need-returns-2
-returns-2 c = string-by _ _ _ (c .before .before .before .before .before .before .before .before .before .before .before .put .ensures) (c .before .before .before .before .before .before .before .put2 .ensures) (c .before .before .put-octets .ensures)
+returns-2 c = string-by _ _ _ (c .before .before .before .before .before .before .before .put .ensures) (c .before .before .put-octets .ensures)
 
 pub string-spec : {M : Type 1} → statement M
 string-spec =
     tie.close
     (tie.spec
     put-requires
-    put-requires-2
     same-length
     returns
     put-octets-requires

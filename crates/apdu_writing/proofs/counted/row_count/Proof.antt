@@ -5,6 +5,9 @@ use borrow.Author.Needs.{needs}
 use Rattle.apdu_writing.proofs.counted.row_count.Statement.{statement}
 use Rattle.apdu_writing.proofs.counted.row_count.Tie as tie
 
+cast-room : tie.Need-cast-room
+cast-room c = search needs
+
 put-requires : tie.Need-put-requires
 put-requires c κs = search needs
 
@@ -18,4 +21,4 @@ returns : tie.Need-returns
 returns c = rows-by _ _ (c .before .before .before .put .ensures) (c .spend .ensures)
 
 pub row-count-spec : {M : Type 1} → statement M
-row-count-spec = tie.close (tie.spec put-requires spend-requires same-length returns)
+row-count-spec = tie.close (tie.spec cast-room put-requires spend-requires same-length returns)

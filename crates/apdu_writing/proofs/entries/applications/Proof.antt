@@ -41,11 +41,11 @@ array-copy-out-e c = omega (arith, c .before .before .before .before .before .be
 application-requires : tie.Need-application-requires Inv-loop μ-loop
 application-requires c κs = tt
 
-cast-used : tie.Need-cast-used Inv-loop μ-loop
-cast-used c = search needs
+entry-rows-requires : tie.Need-entry-rows-requires Inv-loop μ-loop
+entry-rows-requires c κs = tt
 
 add-used : tie.Need-add-used Inv-loop μ-loop
-add-used c = omega (arith, c .before .before .before .before .before .before .before .before .before .before .before .before .entry-count .ensures .1 .so (not-false _ (c .before .before .before .before .before .before .before .before .if1 .left)), c .before .before .before .before .before .before .before .before .before .before .before .before .before .before .before .before .pre, c .before .before .before .before .before .before .before .loop .inv .2, c .struct-known2 .given)
+add-used c = omega (arith, c .before .before .before .before .before .before .before .before .before .before .before .before .entry-count .ensures .1 .so (not-false _ (c .before .before .before .before .before .before .before .before .if1 .left)), c .before .before .before .before .before .before .before .before .before .before .before .before .before .before .before .before .pre, c .before .before .before .before .before .before .before .loop .inv .2, c .entry-rows .ensures .1)
 
 add-i : tie.Need-add-i Inv-loop μ-loop
 add-i c = omega arith
@@ -54,7 +54,7 @@ loop-less : tie.Need-loop-less Inv-loop μ-loop
 loop-less c = omega arith
 
 loop-again : tie.Need-loop-again Inv-loop μ-loop
-loop-again c = let g = c .before .before .before .before .before .before .before .before .before .before .before .before .entry-count .ensures .1 .so (not-false _ (c .before .before .before .before .before .before .before .before .if1 .left)) in let t : length (c .before .before .before .before .before .before .before .before .before .before .before .before .before .before .before .before .args .t2) ≡ 32 = search (long, c .before .before .before .before .before .before .before .before .before .before .before .before .before .before .before .before .good .1 .0 .1) in (omega arith, c .before .before .before .application .kept .1 .1 .1 .1 .0 ∙ c .before .before .before .before .before .before .before .loop .inv .1, omega (arith, c .before .before .before .before .before .before .before .loop .inv .2, c .struct-known2 .given), turns-more _ _ _ _ t (c .before .before .before .before .before .before .before .before .before .before .before .before .before .before .before .before .pre .0) g (c .before .before .before .before .before .before .before .loop .inv .3) refl (c .before .before .before .before .before .before .loop-test .taken) (c .before .before .before .application .ensures))
+loop-again c = let g = c .before .before .before .before .before .before .before .before .before .before .before .before .entry-count .ensures .1 .so (not-false _ (c .before .before .before .before .before .before .before .before .if1 .left)) in let t : length (c .before .before .before .before .before .before .before .before .before .before .before .before .before .before .before .before .args .t2) ≡ 32 = search (long, c .before .before .before .before .before .before .before .before .before .before .before .before .before .before .before .before .good .1 .0 .1) in (omega arith, c .before .before .before .application .kept .1 .1 .1 .1 .0 ∙ c .before .before .before .before .before .before .before .loop .inv .1, omega (arith, c .before .before .before .before .before .before .before .loop .inv .2, c .entry-rows .ensures .1), turns-more _ _ _ _ t (c .before .before .before .before .before .before .before .before .before .before .before .before .before .before .before .before .pre .0) g (c .before .before .before .before .before .before .before .loop .inv .3) refl (c .entry-rows .ensures .0) (c .before .before .before .before .before .before .loop-test .taken) (c .before .before .before .application .ensures))
 
 same-length-2 : tie.Need-same-length-2 Inv-loop μ-loop
 same-length-2 c = c .before .loop .inv .1 ∙ c .before .before .before .before .before .before .entry-count .kept .1 .0
@@ -76,7 +76,7 @@ applications-spec =
     mul-e
     array-copy-out-e
     application-requires
-    cast-used
+    entry-rows-requires
     add-used
     add-i
     loop-less

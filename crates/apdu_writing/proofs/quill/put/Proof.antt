@@ -12,6 +12,9 @@ returns c = put-stopped (c .if1 .taken)
 returns-2 : tie.Need-returns-2
 returns-2 c = put-wrong (c .before .if1 .left) (not-true _ (c .if2 .taken))
 
+cast-write-field : tie.Need-cast-write-field
+cast-write-field c = search needs
+
 write-field-requires : tie.Need-write-field-requires
 write-field-requires c κs = search needs
 
@@ -22,9 +25,9 @@ same-length : tie.Need-same-length
 same-length c = search needs
 
 returns-3 : tie.Need-returns-3
-returns-3 c = put-done (c .before .before .before .before .before .before .if1 .left) (not-false _ (c .before .before .before .before .before .if2 .left)) (c .before .before .before .write-field .ensures .1) (c .beyond .ensures)
+returns-3 c = put-done (c .before .before .before .before .before .before .before .if1 .left) (not-false _ (c .before .before .before .before .before .before .if2 .left)) (c .before .before .before .write-field .ensures .1) (c .beyond .ensures)
 
 pub put-spec : {M : Type 1} → statement M
 put-spec =
     tie.close
-    (tie.spec returns returns-2 write-field-requires beyond-requires same-length returns-3)
+    (tie.spec returns returns-2 cast-write-field write-field-requires beyond-requires same-length returns-3)

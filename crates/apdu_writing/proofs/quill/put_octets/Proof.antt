@@ -15,6 +15,9 @@ inside-requires c κs = search needs
 returns-2 : tie.Need-returns-2
 returns-2 c = put-wrong (c .before .before .if1 .left) (found-outside _ _ _ (c .before .inside .ensures) (c .if2 .taken))
 
+cast-write-string : tie.Need-cast-write-string
+cast-write-string c = search needs
+
 write-string-requires : tie.Need-write-string-requires
 write-string-requires c κs = search needs
 
@@ -28,7 +31,7 @@ same-length : tie.Need-same-length
 same-length c = search needs
 
 returns-3 : tie.Need-returns-3
-returns-3 c = put-done (c .before .before .before .before .before .before .before .if1 .left) (found-inside _ _ _ (c .before .before .before .before .before .before .inside .ensures) (c .before .before .before .before .before .if2 .left)) (c .before .before .before .write-string .ensures .1) (c .beyond .ensures)
+returns-3 c = put-done (c .before .before .before .before .before .before .before .before .if1 .left) (found-inside _ _ _ (c .before .before .before .before .before .before .before .inside .ensures) (c .before .before .before .before .before .before .if2 .left)) (c .before .before .before .write-string .ensures .1) (c .beyond .ensures)
 
 pub put-octets-spec : {M : Type 1} → statement M
 put-octets-spec =
@@ -37,6 +40,7 @@ put-octets-spec =
     returns
     inside-requires
     returns-2
+    cast-write-string
     write-string-requires
     mul-beyond
     beyond-requires

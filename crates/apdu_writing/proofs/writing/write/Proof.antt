@@ -1,7 +1,8 @@
--- A dry run to an output of one octet gives the size; each way out is a check.
+-- The message is written to a page aside and copied from there; each way out is a check.
 -- Assumes nothing.
-use Rattle.bits.proofs.Laws.{octets-known}
-use Rattle.apdu_writing.proofs.Answers.{writes-23, writes-21, writes-22, writes-octets}
+use Prim.Native.Nat.{ℕ}
+use lib.ListN.{length-replicate}
+use Rattle.apdu_writing.proofs.Answers.{writes-23, writes-21, writes-22, writes-octets, blank}
 use Rattle.apdu_writing.specs.Answer.{answerOf}
 use borrow.Author.Needs.{needs}
 use Rattle.apdu_writing.proofs.writing.write.Statement.{statement}
@@ -17,6 +18,9 @@ returns : tie.Need-returns
 unfolding answerOf
 returns c = writes-23 _ _ _ _ _ (c .before .before .before .put-message .ensures) (c .if1 .taken)
 
+cast-octets : tie.Need-cast-octets
+cast-octets c = search needs
+
 returns-2 : tie.Need-returns-2
 unfolding answerOf
 returns-2 c = writes-21 _ _ _ _ _ (c .before .before .before .before .before .put-message .ensures) (c .before .before .if1 .left) (c .if2 .taken)
@@ -25,15 +29,20 @@ returns-3 : tie.Need-returns-3
 unfolding answerOf
 returns-3 c = writes-22 _ _ _ _ _ (c .before .before .before .before .before .before .put-message .ensures) (c .before .before .before .if1 .left) (c .before .if2 .left) (c .if3 .taken)
 
-put-message-requires-2 : tie.Need-put-message-requires-2
-put-message-requires-2 c κs = search needs
+slice-aggregate-copy-string : tie.Need-slice-aggregate-copy-string
+slice-aggregate-copy-string c = search needs
+
+copy-string-requires : tie.Need-copy-string-requires
+copy-string-requires c κs = search needs
 
 same-length : tie.Need-same-length
 same-length c = search needs
 
 returns-4 : tie.Need-returns-4
 unfolding answerOf
-returns-4 c = writes-octets _ _ _ _ _ (c .before .before .before .before .before .before .before .before .before .before .put-message .ensures) (c .before .before .before .before .before .before .before .if1 .left) (c .before .before .before .before .before .if2 .left) (c .before .before .before .before .if3 .left) (octets-known _ (c .before .before .before .before .before .before .before .before .before .before .before .before .slice-known .given)) (c .before .before .put-message2 .ensures)
+returns-4 c =
+    let w = c .before .before .before .before .before in
+    writes-octets _ _ _ _ _ (w .before .before .before .before .before .before .put-message .ensures) (w .before .before .before .if1 .left) (w .before .if2 .left) (w .if3 .left) (blank 512) (length-replicate {A = ℕ} 512 0) (c .before .before .copy-string .ensures .1)
 
 pub write-spec : {M : Type 1} → statement M
 write-spec =
@@ -42,8 +51,10 @@ write-spec =
     slice-aggregate-put-message
     put-message-requires
     returns
+    cast-octets
     returns-2
     returns-3
-    put-message-requires-2
+    slice-aggregate-copy-string
+    copy-string-requires
     same-length
     returns-4)

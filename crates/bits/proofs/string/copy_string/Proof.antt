@@ -4,6 +4,8 @@ use Prim.Native.Nat.{_≤_, _-_}
 use mathlib.Core.Path.{_≡_, refl}
 use lib.ListN.{length, length-set}
 use Rattle.bits.proofs.Strings.{found-outside, found-inside, inside-le, next-octet, Copied, copied-none, copied-more, copied-whole, copy-outside, copy-short}
+use Rattle.bits.proofs.Aligned.{copied-aligned}
+use borrow.Author.Needs.{needs}
 use Rattle.bits.proofs.string.copy_string.Statement.{statement}
 use Rattle.bits.proofs.string.copy_string.Tie as tie
 
@@ -28,12 +30,25 @@ sub-if3 c = omega arith
 returns-3 : tie.Need-returns-3 Inv-loop μ-loop
 returns-3 c = copy-short _ _ _ _ _ (found-inside _ _ _ (c .before .before .before .inside .ensures) (c .before .before .if1 .left)) (omega arith)
 
+copy-octets-requires : tie.Need-copy-octets-requires Inv-loop μ-loop
+copy-octets-requires c κs =
+    let i = c .before .before .before .before in
+    omega (arith, inside-le _ _ _ (found-inside _ _ _ (i .before .inside .ensures) (i .if1 .left)))
+
+same-length : tie.Need-same-length Inv-loop μ-loop
+same-length c = search needs
+
+returns-4 : tie.Need-returns-4 Inv-loop μ-loop
+returns-4 c =
+    let i = c .before .before .before .before .before .before .before in
+    copied-whole _ _ _ _ _ (found-inside _ _ _ (i .before .inside .ensures) (i .if1 .left)) _ (omega arith) (copied-aligned _ _ _ _ _ (omega arith) (c .before .before .copy-octets .ensures)) refl
+
 loop-holds : tie.Need-loop-holds Inv-loop μ-loop
 loop-holds c = (omega arith, refl, copied-none _ _ _ _)
 
 string-octet-requires : tie.Need-string-octet-requires Inv-loop μ-loop
 string-octet-requires c κs =
-    let i = c .before .before .before .before in
+    let i = c .before .before .before .before .before in
     omega (arith, inside-le _ _ _ (found-inside _ _ _ (i .before .inside .ensures) (i .if1 .left)))
 
 add-out : tie.Need-add-out Inv-loop μ-loop
@@ -53,12 +68,12 @@ loop-again c =
     let l = c .before .before .loop in
     (omega arith, simp length-set (l .inv .1), copied-more _ _ _ _ _ (l .inv .2) (next-octet _ _ _ (c .string-octet .ensures)) (omega arith))
 
-same-length : tie.Need-same-length Inv-loop μ-loop
-same-length c = c .before .loop .inv .1
+same-length-2 : tie.Need-same-length-2 Inv-loop μ-loop
+same-length-2 c = c .before .loop .inv .1
 
-returns-4 : tie.Need-returns-4 Inv-loop μ-loop
-returns-4 c =
-    let i = c .before .before .before .before in
+returns-5 : tie.Need-returns-5 Inv-loop μ-loop
+returns-5 c =
+    let i = c .before .before .before .before .before in
     copied-whole _ _ _ _ _ (found-inside _ _ _ (i .before .inside .ensures) (i .if1 .left)) _ (omega arith) (c .before .loop .inv .2) (omega arith)
 
 pub copy-string-spec : {M : Type 1} → statement M
@@ -72,6 +87,9 @@ copy-string-spec =
     returns-2
     sub-if3
     returns-3
+    copy-octets-requires
+    same-length
+    returns-4
     loop-holds
     string-octet-requires
     add-out
@@ -79,5 +97,5 @@ copy-string-spec =
     add-k
     loop-less
     loop-again
-    same-length
-    returns-4)
+    same-length-2
+    returns-5)

@@ -4,6 +4,7 @@ use Prim.Native.Nat.{_≤_, _-_}
 use mathlib.Core.Path.{_≡_, sym, _∙_}
 use Rattle.bits.specs.Strings.{sameString}
 use Rattle.bits.proofs.Strings.{found-outside, found-inside, inside-le, next-octet, Rest, rest-all, rest-same, rest-other, rest-none, outside-first, outside-second}
+use Rattle.bits.proofs.Aligned.{same-aligned}
 use Rattle.bits.proofs.string.same_string.Statement.{statement}
 use Rattle.bits.proofs.string.same_string.Tie as tie
 
@@ -27,27 +28,44 @@ returns-2 c =
     let d = c .before .before in
     outside-second _ _ _ _ _ (found-inside _ _ _ (d .before .inside .ensures) (d .if1 .left)) (found-outside _ _ _ (c .before .inside2 .ensures) (c .if2 .taken))
 
+add-if3 : tie.Need-add-if3 Inv-loop μ-loop
+add-if3 c = omega arith
+
+same-octets-requires : tie.Need-same-octets-requires Inv-loop μ-loop
+same-octets-requires c κs =
+    let e = c .before in
+    let d = e .before .before in
+    omega
+    (arith, inside-le _ _ _ (found-inside _ _ _ (d .before .inside .ensures) (d .if1 .left)), inside-le _ _ _ (found-inside _ _ _ (e .before .inside2 .ensures) (e .if2 .left)))
+
+returns-3 : tie.Need-returns-3 Inv-loop μ-loop
+returns-3 c =
+    let e = c .before .before in
+    let d = e .before .before in
+    same-aligned _ _ _ _ _ (omega arith) (found-inside _ _ _ (d .before .inside .ensures) (d .if1 .left)) (found-inside _ _ _ (e .before .inside2 .ensures) (e .if2 .left)) (c .same-octets .ensures)
+
 loop-holds : tie.Need-loop-holds Inv-loop μ-loop
 loop-holds c =
-    let d = c .before .before in
-    (omega arith, rest-all _ _ _ _ _ (found-inside _ _ _ (d .before .inside .ensures) (d .if1 .left)) (found-inside _ _ _ (c .before .inside2 .ensures) (c .if2 .left)))
+    let e = c .before in
+    let d = e .before .before in
+    (omega arith, rest-all _ _ _ _ _ (found-inside _ _ _ (d .before .inside .ensures) (d .if1 .left)) (found-inside _ _ _ (e .before .inside2 .ensures) (e .if2 .left)))
 
 string-octet-requires : tie.Need-string-octet-requires Inv-loop μ-loop
 string-octet-requires c κs =
-    let d = c .before .before .before .before in
+    let d = c .before .before .before .before .before in
     omega (arith, inside-le _ _ _ (found-inside _ _ _ (d .before .inside .ensures) (d .if1 .left)))
 
 string-octet-requires-2 : tie.Need-string-octet-requires-2 Inv-loop μ-loop
 string-octet-requires-2 c κs =
-    let d = c .before .before .before in
+    let d = c .before .before .before .before in
     omega (arith, inside-le _ _ _ (found-inside _ _ _ (d .before .inside2 .ensures) (d .if2 .left)))
 
-returns-3 : tie.Need-returns-3 Inv-loop μ-loop
-returns-3 c =
+returns-4 : tie.Need-returns-4 Inv-loop μ-loop
+returns-4 c =
     let l = c .before .before .before .before .loop in
     sym
     (l .inv .1
-    ∙ rest-other _ _ _ _ _ (l .k) (omega arith) (next-octet _ _ _ (c .before .before .string-octet .ensures)) (next-octet _ _ _ (c .before .string-octet2 .ensures)) (c .if3 .taken))
+    ∙ rest-other _ _ _ _ _ (l .k) (omega arith) (next-octet _ _ _ (c .before .before .string-octet .ensures)) (next-octet _ _ _ (c .before .string-octet2 .ensures)) (c .if4 .taken))
 
 add-k : tie.Need-add-k Inv-loop μ-loop
 add-k c = omega arith
@@ -60,11 +78,11 @@ loop-again c =
     let l = c .before .before .before .before .loop in (
       omega arith,
       l .inv .1
-          ∙ rest-same _ _ _ _ _ (l .k) (omega arith) (next-octet _ _ _ (c .before .before .string-octet .ensures)) (next-octet _ _ _ (c .before .string-octet2 .ensures)) (c .if3 .left),
+          ∙ rest-same _ _ _ _ _ (l .k) (omega arith) (next-octet _ _ _ (c .before .before .string-octet .ensures)) (next-octet _ _ _ (c .before .string-octet2 .ensures)) (c .if4 .left),
     )
 
-returns-4 : tie.Need-returns-4 Inv-loop μ-loop
-returns-4 c = sym (c .before .loop .inv .1 ∙ rest-none _ _ _ _ _ _ (omega arith))
+returns-5 : tie.Need-returns-5 Inv-loop μ-loop
+returns-5 c = sym (c .before .loop .inv .1 ∙ rest-none _ _ _ _ _ _ (omega arith))
 
 pub same-string-spec : {M : Type 1} → statement M
 same-string-spec =
@@ -76,11 +94,14 @@ same-string-spec =
     returns
     inside-requires-2
     returns-2
+    add-if3
+    same-octets-requires
+    returns-3
     loop-holds
     string-octet-requires
     string-octet-requires-2
-    returns-3
+    returns-4
     add-k
     loop-less
     loop-again
-    returns-4)
+    returns-5)
