@@ -7,11 +7,12 @@ use mathlib.Core.Bool.{Bool, true, false, _&&_}
 use native.Mathlib.Omega.{arith}
 use lib.ListN.{length, take, drop}
 use lib.Seq.{take-take, drop-drop, take-append-le, drop-append-le, take-all}
-use Rattle.refusals.proofs.Tests.{and-true}
+use Rattle.refusals.proofs.Tests.{and-true, by-test}
 use Rattle.apdu_format.specs.Reading.{Value}
 use Rattle.apdu.specs.declared.lists.Row.{Row}
 use Rattle.apdu.specs.declared.lists.Entry.{Entry}
-use Rattle.apdu.specs.Values.{rowValues, rowsValues, entryValues, entriesValues, rowsOf}
+use Rattle.apdu.specs.Values.{rowValues, rowsValues, entryValues, entriesValues, entryRows, rowsOf}
+use Rattle.apdu.specs.Tidy.{entryTidy}
 use Rattle.apdu.specs.Sound.{partFits, nested, partsFit, closes, soundIf, entrySound, entriesSound}
 
 pub and-unit : (b : Bool) → (b && true) ≡ b
@@ -69,27 +70,27 @@ unfolding rowsOf
 rows-of-append [] ys = omega arith
 rows-of-append (x ∷ xs) ys = let h = rows-of-append xs ys in omega arith
 
-pub rows-of-snoc : (xs : List Entry) (e : Entry) → rowsOf (xs ++ (e ∷ [])) ≡ rowsOf xs + e .rows
+pub rows-of-snoc : (xs : List Entry) (e : Entry) → rowsOf (xs ++ (e ∷ [])) ≡ rowsOf xs + entryRows e
 unfolding rowsOf
 rows-of-snoc xs e = let h = rows-of-append xs (e ∷ []) in omega arith
 
 pub entries-snoc : (s : List ℕ) (xs : List Entry) (e : Entry) (rs : List Row)
-    → entriesValues s (xs ++ (e ∷ [])) rs ≡ entriesValues s xs rs ++ entryValues s e (take (e .rows) (drop (rowsOf xs) rs))
+    → entriesValues s (xs ++ (e ∷ [])) rs ≡ entriesValues s xs rs ++ entryValues s e (take (entryRows e) (drop (rowsOf xs) rs))
 unfolding entriesValues rowsOf
-entries-snoc s [] e rs = append-nil (entryValues s e (take (e .rows) rs))
+entries-snoc s [] e rs = append-nil (entryValues s e (take (entryRows e) rs))
 entries-snoc s (x ∷ xs) e rs =
-    ap (λ (l : List Value). entryValues s x (take (x .rows) rs) ++ l) (entries-snoc s xs e (drop (x .rows) rs))
-    ∙ sym (append-assoc (entryValues s x (take (x .rows) rs)) (entriesValues s xs (drop (x .rows) rs)) (entryValues s e (take (e .rows) (drop (rowsOf xs) (drop (x .rows) rs)))))
-    ∙ ap (λ (l : List Row). (entryValues s x (take (x .rows) rs) ++ entriesValues s xs (drop (x .rows) rs)) ++ entryValues s e (take (e .rows) l)) (drop-drop (rowsOf xs) (x .rows) rs)
+    ap (λ (l : List Value). entryValues s x (take (entryRows x) rs) ++ l) (entries-snoc s xs e (drop (entryRows x) rs))
+    ∙ sym (append-assoc (entryValues s x (take (entryRows x) rs)) (entriesValues s xs (drop (entryRows x) rs)) (entryValues s e (take (entryRows e) (drop (rowsOf xs) (drop (entryRows x) rs)))))
+    ∙ ap (λ (l : List Row). (entryValues s x (take (entryRows x) rs) ++ entriesValues s xs (drop (entryRows x) rs)) ++ entryValues s e (take (entryRows e) l)) (drop-drop (rowsOf xs) (entryRows x) rs)
 
 pub sound-snoc : (n : ℕ) (xs : List Entry) (e : Entry) (rs : List Row)
-    → entriesSound n (xs ++ (e ∷ [])) rs ≡ (entriesSound n xs rs && entrySound n e (take (e .rows) (drop (rowsOf xs) rs)))
+    → entriesSound n (xs ++ (e ∷ [])) rs ≡ (entriesSound n xs rs && entrySound n e (take (entryRows e) (drop (rowsOf xs) rs)))
 unfolding entriesSound rowsOf
-sound-snoc n [] e rs = and-unit (entrySound n e (take (e .rows) rs))
+sound-snoc n [] e rs = and-unit (entrySound n e (take (entryRows e) rs))
 sound-snoc n (x ∷ xs) e rs =
-    ap (λ (b : Bool). entrySound n x (take (x .rows) rs) && b) (sound-snoc n xs e (drop (x .rows) rs))
-    ∙ sym (and-assoc (entrySound n x (take (x .rows) rs)) (entriesSound n xs (drop (x .rows) rs)) (entrySound n e (take (e .rows) (drop (rowsOf xs) (drop (x .rows) rs)))))
-    ∙ ap (λ (l : List Row). (entrySound n x (take (x .rows) rs) && entriesSound n xs (drop (x .rows) rs)) && entrySound n e (take (e .rows) l)) (drop-drop (rowsOf xs) (x .rows) rs)
+    ap (λ (b : Bool). entrySound n x (take (entryRows x) rs) && b) (sound-snoc n xs e (drop (entryRows x) rs))
+    ∙ sym (and-assoc (entrySound n x (take (entryRows x) rs)) (entriesSound n xs (drop (entryRows x) rs)) (entrySound n e (take (entryRows e) (drop (rowsOf xs) (drop (entryRows x) rs)))))
+    ∙ ap (λ (l : List Row). (entrySound n x (take (entryRows x) rs) && entriesSound n xs (drop (entryRows x) rs)) && entrySound n e (take (entryRows e) l)) (drop-drop (rowsOf xs) (entryRows x) rs)
 
 take-nil : {A : Type 0} (n : ℕ) → take {A = A} n [] ≡ []
 take-nil zero = refl
@@ -106,27 +107,32 @@ pub own-values : (s : List ℕ) (es : List Entry) (rs : List Row) → entriesVal
 unfolding entriesValues rowsOf
 own-values s [] rs = refl
 own-values s (e ∷ es) rs =
-    ap (λ (l : List Row). entryValues s e l ++ entriesValues s es (drop (e .rows) rs)) (sym (take-take (e .rows) (e .rows + rowsOf es) rs (omega arith)))
-    ∙ ap (λ (l : List Value). entryValues s e (take (e .rows) (take (e .rows + rowsOf es) rs)) ++ l)
-    (own-values s es (drop (e .rows) rs) ∙ ap (entriesValues s es) (sym (drop-take (e .rows) (rowsOf es) (e .rows + rowsOf es) rs refl)))
+    ap (λ (l : List Row). entryValues s e l ++ entriesValues s es (drop (entryRows e) rs)) (sym (take-take (entryRows e) (entryRows e + rowsOf es) rs (omega arith)))
+    ∙ ap (λ (l : List Value). entryValues s e (take (entryRows e) (take (entryRows e + rowsOf es) rs)) ++ l)
+    (own-values s es (drop (entryRows e) rs) ∙ ap (entriesValues s es) (sym (drop-take (entryRows e) (rowsOf es) (entryRows e + rowsOf es) rs refl)))
 
 pub own-sound : (n : ℕ) (es : List Entry) (rs : List Row) → entriesSound n es rs ≡ entriesSound n es (take (rowsOf es) rs)
 unfolding entriesSound rowsOf
 own-sound n [] rs = refl
 own-sound n (e ∷ es) rs =
-    ap (λ (l : List Row). entrySound n e l && entriesSound n es (drop (e .rows) rs)) (sym (take-take (e .rows) (e .rows + rowsOf es) rs (omega arith)))
-    ∙ ap (λ (b : Bool). entrySound n e (take (e .rows) (take (e .rows + rowsOf es) rs)) && b)
-    (own-sound n es (drop (e .rows) rs) ∙ ap (entriesSound n es) (sym (drop-take (e .rows) (rowsOf es) (e .rows + rowsOf es) rs refl)))
+    ap (λ (l : List Row). entrySound n e l && entriesSound n es (drop (entryRows e) rs)) (sym (take-take (entryRows e) (entryRows e + rowsOf es) rs (omega arith)))
+    ∙ ap (λ (b : Bool). entrySound n e (take (entryRows e) (take (entryRows e + rowsOf es) rs)) && b)
+    (own-sound n es (drop (entryRows e) rs) ∙ ap (entriesSound n es) (sym (drop-take (entryRows e) (rowsOf es) (entryRows e + rowsOf es) rs refl)))
+
+-- an entry without a parameter has no rows
+pub tidy-rows : (e : Entry) → entryTidy e → entryRows e ≡ e .rows
+unfolding entryRows
+tidy-rows e t = by-test (λ (n : ℕ). n ≡ e .rows) (e .«has_parameter») (λ h. refl) (λ h. sym (t .1 .are h .1 .1 .1 .0))
 
 -- one entry more, with its rows behind the others
-module _ (es : List Entry) (e : Entry) (rs new : List Row) (h : rowsOf es ≡ length rs) (k : e .rows ≡ length new) where
+module _ (es : List Entry) (e : Entry) (rs new : List Row) (h : rowsOf es ≡ length rs) (k : entryRows e ≡ length new) where
   front : take (rowsOf es) (rs ++ new) ≡ rs
   front = take-append-le (rowsOf es) rs new (omega arith) ∙ take-all (rowsOf es) rs (omega arith)
 
-  behind : take (e .rows) (drop (rowsOf es) (rs ++ new)) ≡ new
+  behind : take (entryRows e) (drop (rowsOf es) (rs ++ new)) ≡ new
   behind =
-      ap (take (e .rows)) (drop-append-le (rowsOf es) rs new (omega arith) ∙ ap (λ (l : List Row). l ++ new) (drop-all (rowsOf es) rs (omega arith)))
-      ∙ take-all (e .rows) new (omega arith)
+      ap (take (entryRows e)) (drop-append-le (rowsOf es) rs new (omega arith) ∙ ap (λ (l : List Row). l ++ new) (drop-all (rowsOf es) rs (omega arith)))
+      ∙ take-all (entryRows e) new (omega arith)
 
   pub entries-more : (s : List ℕ) → entriesValues s (es ++ (e ∷ [])) (rs ++ new) ≡ entriesValues s es rs ++ entryValues s e new
   entries-more s = entries-snoc s es e (rs ++ new) ∙ rw (own-values s es (rs ++ new), front, behind)

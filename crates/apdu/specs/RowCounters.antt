@@ -1,4 +1,4 @@
--- Attribute rows that are still to come, list by list. No contract of reading or writing a message cites these.
+-- Attribute rows that are still to come, list by list. What `level` and `after_row` count for reading and writing.
 -- Assumes nothing.
 use Prim.Native.Nat.{ℕ, _+_, _-_}
 use mathlib.Core.List.{List, [], _∷_, _++_}

@@ -21,7 +21,7 @@ use Rattle.apdu.specs.declared.records.Bst.{Bst}
 use Rattle.apdu.specs.declared.records.Vst.{Vst}
 use Rattle.apdu.specs.declared.records.Message.{Message}
 use Rattle.apdu.specs.declared.records.Message.the-variants as kind
-use Rattle.apdu.specs.Values.{rowsOf, valuesOf}
+use Rattle.apdu.specs.Values.{entryRows, rowsOf, valuesOf}
 
 -- whether the lent octets, so many of them, hold the string or the ids of a container
 unfoldable pub partFits : (octets kind n start : ℕ) → Bool
@@ -56,7 +56,7 @@ entrySound octets e rs = soundIf (e .«has_parameter») (containerSound octets (
 
 unfoldable pub entriesSound : ℕ → List Entry → List Row → Bool
 entriesSound octets [] rs = true
-entriesSound octets (e ∷ es) rs = entrySound octets e (take (e .rows) rs) && entriesSound octets es (drop (e .rows) rs)
+entriesSound octets (e ∷ es) rs = entrySound octets e (take (entryRows e) rs) && entriesSound octets es (drop (entryRows e) rs)
 
 -- ---- messages
 

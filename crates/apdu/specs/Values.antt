@@ -78,15 +78,19 @@ entryValues s e rs =
     (fields (bitOf (e .«has_eid») ∷ bitOf (e .«has_parameter») ∷ 0 ∷ e .aid ∷ []) ∷ [])
     ++ (num-if (e .«has_eid») (e .eid) ++ if (e .«has_parameter») (containerValues s (e .kind) (e .n) (e .start) rs))
 
--- entries, each with as many of the rows as it says
+-- the rows that belong to an entry: those of its parameter, if that is there
+unfoldable pub entryRows : Entry → ℕ
+entryRows e = pick (e .«has_parameter») (e .rows) 0
+
+-- entries, each with its own rows
 unfoldable pub entriesValues : List ℕ → List Entry → List Row → List Value
 entriesValues s [] rs = []
-entriesValues s (e ∷ es) rs = entryValues s e (take (e .rows) rs) ++ entriesValues s es (drop (e .rows) rs)
+entriesValues s (e ∷ es) rs = entryValues s e (take (entryRows e) rs) ++ entriesValues s es (drop (entryRows e) rs)
 
 -- how many rows they have
 unfoldable pub rowsOf : List Entry → ℕ
 rowsOf [] = 0
-rowsOf (e ∷ es) = e .rows + rowsOf es
+rowsOf (e ∷ es) = entryRows e + rowsOf es
 
 -- a list of entries with its count
 abbrev pub listValues : List ℕ → ℕ → List Entry → List Row → List Value

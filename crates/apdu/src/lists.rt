@@ -2,7 +2,8 @@
 // block.
 ghost use mathlib.Core.Path.{_≡_};
 ghost use lib.ListN.{replicate};
-ghost use Rattle.apdu.specs.Values.{emptyRow, emptyEntry};
+ghost use Prim.Native.Nat.{_<_};
+ghost use Rattle.apdu.specs.Values.{emptyRow, emptyEntry, entryRows};
 
 // An attribute and its container: n is a string's length, an EID, or a count; a list of n rows is followed by its rows.
 pub struct Row {
@@ -22,6 +23,13 @@ pub struct Entry {
     pub rows: u8,
     pub n: u16,
     pub start: usize,
+}
+
+// How many rows belong to an entry: those of its parameter, if that is there.
+pub fn entry_rows(e: Entry) -> usize
+    ensures { λ r. ⌜ (r ≡ entryRows e) × (r < 256) ⌝ }
+{
+    if e.has_parameter { e.rows as usize } else { 0 }
 }
 
 // The entries and rows of a message, in its order; unused ones are 0.

@@ -14,30 +14,25 @@ use Rattle.refusals.specs.Check.{pick}
 use Rattle.apdu_format.proofs.Tests.{both}
 use Rattle.apdu.specs.declared.lists.Row.{Row}
 use Rattle.apdu.specs.declared.lists.Entry.{Entry}
-use Rattle.apdu.specs.Values.{bitOf, num, emptyEntry, entryValues, entriesValues, rowsOf}
+use Rattle.apdu.specs.Values.{bitOf, num, emptyEntry, entryValues, entriesValues, entryRows, rowsOf}
 use Rattle.apdu.specs.Sound.{entrySound, entriesSound}
 use Rattle.apdu_writing.specs.Quill.{clampedTo}
 use Rattle.apdu_writing.proofs.RowLists.{clamp-take, clamp-length}
-use Rattle.apdu.proofs.Laws.{own-values}
+use Rattle.apdu.proofs.Laws.{rows-of-snoc, own-values}
 use Rattle.apdu_same.specs.Walk.{sameIf, sameHead, sameRows, sameBox, sameEntry, listsRows, sameEntries, sameApplications, Agree}
 use Rattle.apdu_same.proofs.Agreement.{agree-as, agree-none, agree-then, agree-number, begin, then, step-if, before, given, Lead, lead-last, lead-more, lead-agrees, flag-first}
 use Rattle.apdu_same.proofs.RowLists.{box-agrees}
 
 -- ---- how many rows the first entries have
 
-rows-last : (es : List Entry) (e : Entry) → rowsOf (es ++ (e ∷ [])) ≡ rowsOf es + e .rows
-unfolding rowsOf
-rows-last [] e = omega arith
-rows-last (x ∷ es) e = let h = rows-last es e in omega arith
-
 pub rows-none-yet : (es : List Entry) → 0 ≡ rowsOf (take 0 es)
 unfolding rowsOf
 rows-none-yet es = refl
 
-pub rows-more : (es : List Entry) (i : ℕ) {e : Entry} {used : ℕ} → e ≡ getD es i emptyEntry → i < length es → used ≡ rowsOf (take i es)
-    → used + e .rows ≡ rowsOf (take (i + 1) es)
-rows-more es i {e} {used} f h g =
-    ap (λ (k : ℕ). k + e .rows) g ∙ sym (rows-last (take i es) e)
+pub rows-more : (es : List Entry) (i : ℕ) {e : Entry} {own used : ℕ} → e ≡ getD es i emptyEntry → own ≡ entryRows e → i < length es → used ≡ rowsOf (take i es)
+    → used + own ≡ rowsOf (take (i + 1) es)
+rows-more es i {e} f o h g =
+    rw (o, g) (sym (rows-of-snoc (take i es) e))
     ∙ ap (λ (x : Entry). rowsOf (take i es ++ (x ∷ []))) f ∙ ap rowsOf (sym (take-suc es i emptyEntry h)) ∙ ap (λ (k : ℕ). rowsOf (take k es)) (sym (add-one i))
 
 pub rows-whole : (es : List Entry) (n i : ℕ) {used : ℕ} → length es ≡ 32 → i ≡ clampedTo 32 n → used ≡ rowsOf (take i es) → used ≡ rowsOf (take n es)
@@ -95,28 +90,30 @@ module _ (s : List ℕ) (es : List Entry) (vs : List Row) (t : List ℕ) (fs : L
       past (suc i) (x ∷ l) h = past i l (omega arith)
 
   module _ (i used gone : ℕ) {e f : Entry} (p : e ≡ getD es i emptyEntry) (q : f ≡ getD fs i emptyEntry) (h : i < length es) (k : i < length fs) where
-    abbrev rows : Bool
-    rows = sameRows s (take (e .rows) (drop used vs)) t (take (f .rows) (drop gone ws))
+    -- so many rows of either
+    abbrev rows : ℕ → ℕ → Bool
+    rows n m = sameRows s (take n (drop used vs)) t (take m (drop gone ws))
 
-    entry-left : EntriesLeft i used gone ≡ ((sameEntry s e t f && pick (listsRows e) rows true) && EntriesLeft (i + 1) (used + e .rows) (gone + f .rows))
+    entry-left : EntriesLeft i used gone
+        ≡ ((sameEntry s e t f && pick (listsRows e) (rows (entryRows e) (entryRows f)) true) && EntriesLeft (i + 1) (used + entryRows e) (gone + entryRows f))
     unfolding EntriesLeft sameEntries
     entry-left =
-        rw (drop-cons es i emptyEntry h, drop-cons fs i emptyEntry k, ← p, ← q, add-one i, ← drop-drop (e .rows) used vs, ← drop-drop (f .rows) gone ws)
+        rw (drop-cons es i emptyEntry h, drop-cons fs i emptyEntry k, ← p, ← q, add-one i, ← drop-drop (entryRows e) used vs, ← drop-drop (entryRows f) gone ws)
 
     module _ {r : Bool} (g : r ≡ sameEntry s e t f) where
       pub entry-other : not r ≡ true → EntriesLeft i used gone ≡ false
       entry-other j = entry-left ∙ rw (← g, not-true r j)
 
-      module _ {l : Bool} (j : not r ≡ false) (m : l ≡ listsRows e) where
-        pub entry-passed : l ≡ false → EntriesLeft i used gone ≡ EntriesLeft (i + 1) (used + e .rows) (gone + f .rows)
-        entry-passed z = entry-left ∙ rw (← g, not-false r j, ← m, z)
+      module _ {l : Bool} {own theirs : ℕ} (j : not r ≡ false) (u : own ≡ entryRows e) (v : theirs ≡ entryRows f) (m : l ≡ listsRows e) where
+        pub entry-passed : l ≡ false → EntriesLeft i used gone ≡ EntriesLeft (i + 1) (used + own) (gone + theirs)
+        entry-passed z = entry-left ∙ rw (← g, not-false r j, ← m, z, u, v)
 
-        module _ {x : Bool} (y : l ≡ true) (z : x ≡ rows) where
-          pub rows-same : not x ≡ false → EntriesLeft i used gone ≡ EntriesLeft (i + 1) (used + e .rows) (gone + f .rows)
-          rows-same o = entry-left ∙ rw (← g, not-false r j, ← m, y, ← z, not-false x o)
+        module _ {x : Bool} (y : l ≡ true) (z : x ≡ rows own theirs) where
+          pub rows-same : not x ≡ false → EntriesLeft i used gone ≡ EntriesLeft (i + 1) (used + own) (gone + theirs)
+          rows-same o = entry-left ∙ rw (← g, not-false r j, ← m, y, ← u, ← v, ← z, not-false x o)
 
           pub rows-other : not x ≡ true → EntriesLeft i used gone ≡ false
-          rows-other o = entry-left ∙ rw (← g, not-false r j, ← m, y, ← z, not-true x o)
+          rows-other o = entry-left ∙ rw (← g, not-false r j, ← m, y, ← u, ← v, ← z, not-true x o)
 
 -- ---- the values
 
@@ -156,10 +153,10 @@ module _ (s t : List ℕ) where
   entries-agree [] vs (f ∷ fs) ws h p q = absurd (omega arith)
   entries-agree (e ∷ es) vs [] ws h p q = absurd (omega arith)
   entries-agree (e ∷ es) vs (f ∷ fs) ws h p q =
-      let p' = both (entrySound (length s) e (take (e .rows) vs)) (entriesSound (length s) es (drop (e .rows) vs)) p in
-      let q' = both (entrySound (length t) f (take (f .rows) ws)) (entriesSound (length t) fs (drop (f .rows) ws)) q in
-      agree-then (entry-agrees e (take (e .rows) vs) f (take (f .rows) ws) (p' .0) (q' .0))
-      (λ z. entries-agree es (drop (e .rows) vs) fs (drop (f .rows) ws) (omega arith) (p' .1) (q' .1))
+      let p' = both (entrySound (length s) e (take (entryRows e) vs)) (entriesSound (length s) es (drop (entryRows e) vs)) p in
+      let q' = both (entrySound (length t) f (take (entryRows f) ws)) (entriesSound (length t) fs (drop (entryRows f) ws)) q in
+      agree-then (entry-agrees e (take (entryRows e) vs) f (take (entryRows f) ws) (p' .0) (q' .0))
+      (λ z. entries-agree es (drop (entryRows e) vs) fs (drop (entryRows f) ws) (omega arith) (p' .1) (q' .1))
 
   -- lists of n and m entries, each at the front of as many
   pub applications-agree : (n m : ℕ) (es fs : List Entry) (vs ws : List Row) → length es ≡ length fs → entriesSound (length s) (take n es) vs ≡ true

@@ -1,5 +1,5 @@
--- When two messages are the same (01, "Messages": "Two messages are the same when all other fields and the string octets agree, wherever the strings
--- stand"), and what comparing two records answers. Absent fields and unused rows are no values of a record (specs/Values.antt of apdu): they are passed over.
+-- When two messages are the same (01, "Messages"): their fields agree, and the octets of their strings, at whatever places; and what comparing two records
+-- answers. Absent fields and unused rows are no values of a record (specs/Values.antt of apdu): they are passed over.
 -- Assumes nothing.
 use Prim.Native.Nat.{ℕ}
 use mathlib.Core.List.{List, [], _∷_}

@@ -12,7 +12,7 @@ use Rattle.apdu_format.specs.Component.{octetString, attributeIdList, attribute
 use Rattle.apdu_format.specs.Reading.{Value}
 use Rattle.apdu.specs.declared.lists.Row.{Row}
 use Rattle.apdu.specs.declared.lists.Entry.{Entry}
-use Rattle.apdu.specs.Values.{bitOf}
+use Rattle.apdu.specs.Values.{bitOf, entryRows}
 use Rattle.apdu_same.specs.Comparison.{sameMessage}
 
 -- ---- what is compared
@@ -63,7 +63,7 @@ sameEntries s [] vs t [] ws = true
 sameEntries s [] vs t (f ∷ fs) ws = false
 sameEntries s (e ∷ es) vs t [] ws = false
 sameEntries s (e ∷ es) vs t (f ∷ fs) ws =
-    (sameEntry s e t f && pick (listsRows e) (sameRows s (take (e .rows) vs) t (take (f .rows) ws)) true) && sameEntries s es (drop (e .rows) vs) t fs (drop (f .rows) ws)
+    (sameEntry s e t f && pick (listsRows e) (sameRows s (take (entryRows e) vs) t (take (entryRows f) ws)) true) && sameEntries s es (drop (entryRows e) vs) t fs (drop (entryRows f) ws)
 
 -- a list of entries: its count, and they
 unfoldable pub sameApplications : List ℕ → ℕ → List Entry → List Row → List ℕ → ℕ → List Entry → List Row → Bool

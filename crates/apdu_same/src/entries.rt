@@ -11,6 +11,7 @@ use crate::rows::head;
 use crate::rows::rows;
 use apdu::Entry;
 use apdu::Row;
+use apdu::entry_rows;
 
 // Two entries without the rows of their parameters.
 fn entry(s: &[u8], e: Entry, t: &[u8], f: Entry) -> bool
@@ -50,7 +51,7 @@ pub(crate) fn rows_of(list: [Entry; 32], n: usize) -> usize
     let mut i: usize = 0;
     while i < k {
         let e = list[i];
-        used += e.rows as usize;
+        used += entry_rows(e);
         i += 1;
     }
     used
@@ -82,22 +83,15 @@ fn applications(
         if !entry(s, e, t, f) {
             return false;
         }
+        let own = entry_rows(e);
+        let theirs = entry_rows(f);
         if lists_rows(e) {
-            if !rows(
-                s,
-                table,
-                used,
-                e.rows as usize,
-                t,
-                others,
-                gone,
-                f.rows as usize,
-            ) {
+            if !rows(s, table, used, own, t, others, gone, theirs) {
                 return false;
             }
         }
-        used += e.rows as usize;
-        gone += f.rows as usize;
+        used += own;
+        gone += theirs;
         i += 1;
     }
     true

@@ -11,17 +11,18 @@ use lib.Seq.{take-all, take-suc, drop-drop, getD-drop, getD-take}
 use Rattle.apdu.specs.declared.lists.Row.{Row}
 use Rattle.apdu.specs.declared.lists.Entry.{Entry}
 use Rattle.apdu.specs.declared.records.Message.{Message}
-use Rattle.apdu.specs.Values.{rowsOf, emptyEntry}
+use Rattle.apdu.specs.Values.{entryRows, rowsOf, emptyEntry}
+use Rattle.apdu.proofs.Laws.{rows-of-snoc}
 use Rattle.apdu_text.specs.Parts.{when, between, entryText, entriesText, entryList}
 use Rattle.apdu_text.specs.MessageText.{messageText}
 use Rattle.apdu_text.specs.Ink.{Inks}
 use Rattle.apdu_text.proofs.Inking.{Leaves, leaves-more, leaves-none, leaves-as, inks-then, inks-as}
 use Rattle.apdu_text.proofs.Flat.{part-at}
 
-rows-snoc : (xs : List Entry) (e : Entry) → rowsOf (xs ++ (e ∷ [])) ≡ rowsOf xs + e .rows
-unfolding rowsOf
-rows-snoc [] e = omega arith
-rows-snoc (x ∷ xs) e = let h = rows-snoc xs e in omega arith
+-- an entry is shown with its own rows
+pub entry-inks : (s : List ℕ) (e : Entry) (rs : List Row) {own : ℕ} → own ≡ entryRows e → {at r : ℕ} {o q : List ℕ} → Inks (entryText s e (take own rs)) at r o q
+    → Inks (entryText s e (take (entryRows e) rs)) at r o q
+entry-inks s e rs h x = rw h at x
 
 module _ (list : List Entry) (from n i : ℕ) where
   abbrev all : List Entry
@@ -30,12 +31,12 @@ module _ (list : List Entry) (from n i : ℕ) where
   abbrev this : Entry
   this = getD list (from + i) emptyEntry
 
-  pub used-more : (first used : ℕ) → i < length all → used ≡ first + rowsOf (take i all) → used + this .rows ≡ first + rowsOf (take (i + 1) all)
-  used-more first used h e =
+  pub used-more : (first used : ℕ) {own : ℕ} → own ≡ entryRows this → i < length all → used ≡ first + rowsOf (take i all) → used + own ≡ first + rowsOf (take (i + 1) all)
+  used-more first used o h e =
       let d : drop i all ≡ this ∷ drop (i + 1) all = part-at list from n i emptyEntry h in
       let g : getD all i emptyEntry ≡ this = one (drop i all) d ∙ refl in
       let t : take (i + 1) all ≡ take i all ++ (this ∷ []) = ap (λ (k : ℕ). take k all) (add-one i) ∙ take-suc all i emptyEntry h ∙ ap (λ (y : Entry). take i all ++ (y ∷ [])) g in
-      let k = rows-snoc (take i all) this in
+      let k = rows-of-snoc (take i all) this in
       rw t (omega arith)
     where
       one : (l : List Entry) → l ≡ this ∷ drop (i + 1) all → getD all i emptyEntry ≡ this
@@ -50,29 +51,29 @@ module _ (list : List Entry) (from n i : ℕ) where
       (l : Leaves text at out (entriesText s (drop i all) (drop used table) ++ end) m p) where
     entry-first : i < length all
         → entriesText s (drop i all) (drop used table) ++ end
-        ≡ entryText s this (take (this .rows) (drop used table)) ++ (between (drop (i + 1) all) ++ (entriesText s (drop (i + 1) all) (drop (used + this .rows) table) ++ end))
+        ≡ entryText s this (take (entryRows this) (drop used table)) ++ (between (drop (i + 1) all) ++ (entriesText s (drop (i + 1) all) (drop (used + entryRows this) table) ++ end))
     unfolding entriesText
     entry-first h =
-        rw (part-at list from n i emptyEntry h, drop-drop (this .rows) used table)
-        (append-assoc (entryText s this (take (this .rows) (drop used table))) (between (drop (i + 1) all) ++ entriesText s (drop (i + 1) all) (drop (used + this .rows) table)) end
-        ∙ ap (λ (t : List ℕ). entryText s this (take (this .rows) (drop used table)) ++ t)
-        (append-assoc (between (drop (i + 1) all)) (entriesText s (drop (i + 1) all) (drop (used + this .rows) table)) end))
+        rw (part-at list from n i emptyEntry h, drop-drop (entryRows this) used table)
+        (append-assoc (entryText s this (take (entryRows this) (drop used table))) (between (drop (i + 1) all) ++ entriesText s (drop (i + 1) all) (drop (used + entryRows this) table)) end
+        ∙ ap (λ (t : List ℕ). entryText s this (take (entryRows this) (drop used table)) ++ t)
+        (append-assoc (between (drop (i + 1) all)) (entriesText s (drop (i + 1) all) (drop (used + entryRows this) table)) end))
 
-    module _ {r : ℕ} {q : List ℕ} (e : Inks (entryText s this (take (this .rows) (drop used table))) m r p q) where
+    module _ {own : ℕ} (o : own ≡ entryRows this) {r : ℕ} {q : List ℕ} (e : Inks (entryText s this (take (entryRows this) (drop used table))) m r p q) where
       pub entries-more : i + 1 < length all → {t : ℕ} {u : List ℕ} → Inks (44 ∷ []) r t q u
-          → Leaves text at out (entriesText s (drop (i + 1) all) (drop (used + this .rows) table) ++ end) t u
+          → Leaves text at out (entriesText s (drop (i + 1) all) (drop (used + own) table) ++ end) t u
       unfolding between
       entries-more h x =
           let some : between (drop (i + 1) all) ≡ 44 ∷ [] = ap (λ (k : List Entry). between k) (part-at list from n (i + 1) emptyEntry h) in
           let begun = leaves-more (leaves-as (entry-first (omega arith)) l) e in
-          leaves-more {a = 44 ∷ []} (rw some at begun) x
+          rw o (leaves-more {a = 44 ∷ []} (rw some at begun) x)
 
-      pub entries-last : i < length all → length all ≤ i + 1 → Leaves text at out (entriesText s (drop (i + 1) all) (drop (used + this .rows) table) ++ end) r q
+      pub entries-last : i < length all → length all ≤ i + 1 → Leaves text at out (entriesText s (drop (i + 1) all) (drop (used + own) table) ++ end) r q
       unfolding between
       entries-last h k =
           let none : between (drop (i + 1) all) ≡ [] = ap (λ (j : List Entry). between j) (drop-of-length-le all k) in
           let begun = leaves-more (leaves-as (entry-first h) l) e in
-          rw none at begun
+          rw o (rw none at begun)
 
     pub entries-end : length all ≤ i → {r : ℕ} {q : List ℕ} → Inks end m r p q → Inks text at r out q
     unfolding entriesText

@@ -12,6 +12,7 @@ use Rattle.bits.specs.Strings.{isInside, stringAt}
 use Rattle.apdu_format.specs.Component.{octetString, dsrcEid, attributeIdList, attributeList}
 use Rattle.apdu.specs.declared.lists.Row.{Row}
 use Rattle.apdu.specs.declared.lists.Entry.{Entry}
+use Rattle.apdu.specs.Values.{entryRows}
 use Rattle.apdu.specs.Sound.{nested}
 use Rattle.bench_lines.specs.Numerals.{decimalBefore}
 use Rattle.bench_lines.specs.Line.{hexText}
@@ -110,10 +111,10 @@ entryText s e rs =
     decimal (e .aid)
     ++ (when (e .«has_eid») (47 ∷ decimal (e .eid)) ++ when (e .«has_parameter») (61 ∷ containerText s (e .kind) (e .n) (e .start) rs))
 
--- entries with commas between them, each with as many of the rows as it says
+-- entries with commas between them, each with its own rows
 unfoldable pub entriesText : List ℕ → List Entry → List Row → List ℕ
 entriesText s [] rs = []
-entriesText s (e ∷ es) rs = entryText s e (take (e .rows) rs) ++ (between es ++ entriesText s es (drop (e .rows) rs))
+entriesText s (e ∷ es) rs = entryText s e (take (entryRows e) rs) ++ (between es ++ entriesText s es (drop (entryRows e) rs))
 
 -- `[1/2=octets:11,3]`
 unfoldable pub entryList : List ℕ → List Entry → List Row → List ℕ

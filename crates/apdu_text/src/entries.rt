@@ -3,7 +3,7 @@ ghost use mathlib.Core.Path.{_≡_};
 ghost use mathlib.Core.List.{_++_};
 ghost use Prim.Native.Nat.{_+_, _*_, _≤_};
 ghost use lib.ListN.{take, drop};
-ghost use Rattle.apdu.specs.Values.{rowsOf};
+ghost use Rattle.apdu.specs.Values.{entryRows, rowsOf};
 ghost use Rattle.apdu_text.specs.Parts.{entryText, entryList};
 ghost use Rattle.apdu_text.specs.Ink.{Inks};
 use crate::fields::number_if;
@@ -14,10 +14,11 @@ use crate::rows::clamped;
 use crate::rows::container_if;
 use apdu::Entry;
 use apdu::Row;
+use apdu::entry_rows;
 
 // One entry; its rows start at `first`.
 fn entry(out: &mut [u8], s: &[u8], e: Entry, table: [Row; 32], first: usize, at: usize) -> usize
-    ensures { λ r. ⌜ Inks (entryText (now (s .entry)) e (take (e .rows) (drop first table))) at r (now (out .entry)) (now (out .exit)) ⌝ }
+    ensures { λ r. ⌜ Inks (entryText (now (s .entry)) e (take (entryRows e) (drop first table))) at r (now (out .entry)) (now (out .exit)) ⌝ }
 {
     let eid = put_decimal(out, e.aid as u64, at);
     let value = number_if(e.has_eid, out, b"/", e.eid as u64, eid);
@@ -28,7 +29,7 @@ fn entry(out: &mut [u8], s: &[u8], e: Entry, table: [Row; 32], first: usize, at:
         s,
         table,
         first,
-        e.rows as usize,
+        entry_rows(e),
         e.kind as u64,
         e.n as u64,
         e.start,
@@ -65,7 +66,7 @@ pub(crate) fn entries(
     while i < most {
         let e = list[from + i];
         p = entry(out, s, e, table, used, p);
-        used += e.rows as usize;
+        used += entry_rows(e);
         i += 1;
         if i < most {
             p = put(out, b',', p);

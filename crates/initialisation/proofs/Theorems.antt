@@ -22,7 +22,7 @@ use Rattle.initialisation.specs.declared.records.Configuration.{Configur
 use Rattle.initialisation.specs.Offer.{Found, nothing, found}
 use Rattle.initialisation.specs.Hearing.{Call, hearingRefusal, Taken, beaconOf, sent, phaseAfter, linkAfter, entryOf, vstOf, vstFor, Reply, refused, silent, vst, outputFor, Heard, heardOf}
 use Rattle.initialisation.specs.Theorems.{vstSays, VstSent, Hears}
-use Rattle.initialisation.proofs.VstLaws.{Sendable, vst-passes, vst-short}
+use Rattle.initialisation.proofs.VstLaws.{Sendable, no-rows, vst-passes, vst-short}
 use Rattle.initialisation.proofs.HearingLaws.{checked, sendable, taken-parts}
 
 -- ---- what a VST says
@@ -37,10 +37,11 @@ unfolding vstFor vstSays valuesOf vstValues entriesValues entryValues rowsValues
 values-said t marks k =
     let e = t .element in
     let q = ltb 0 (e .«mark_length») in
-    ap
+    rw (no-rows e)
+    (ap
     (λ (l : List Value). fields (9 ∷ []) ∷ fields (0 ∷ []) ∷ num (t .profile) ∷ num 1 ∷ fields (1 ∷ bitOf q ∷ 0 ∷ e .aid ∷ []) ∷ num (e .eid) ∷ l)
     (tail q (num 2) (fields (0 ∷ [])) (fields (e .«mark_length» ∷ [])) (string (8 * e .mark) (take (8 * e .«mark_length») (drop (8 * e .mark) (bits marks))))
-    (fields (1 ∷ k .class ∷ []) ∷ fields (k .maker ∷ []) ∷ fields (k .status ∷ []) ∷ []))
+    (fields (1 ∷ k .class ∷ []) ∷ fields (k .maker ∷ []) ∷ fields (k .status ∷ []) ∷ [])))
 
 octets-long : (vs : List Value) → length (encodedOctets vs) ≡ size vs
 unfolding encodedOctets

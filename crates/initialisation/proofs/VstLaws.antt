@@ -26,7 +26,7 @@ use Rattle.apdu.specs.declared.lists.Entry.{Entry}
 use Rattle.apdu.specs.declared.records.Message.{Message}
 use Rattle.apdu.specs.declared.records.Vst.{Vst}
 use Rattle.apdu.specs.declared.records.Message.the-variants as kind
-use Rattle.apdu.specs.Values.{bitOf, num, if, headValues, rowsValues, entryValues, entriesValues, rowsOf, vstValues, valuesOf, emptyEntry}
+use Rattle.apdu.specs.Values.{bitOf, num, if, headValues, rowsValues, entryValues, entriesValues, entryRows, rowsOf, vstValues, valuesOf, emptyEntry}
 use Rattle.apdu.specs.Sound.{soundIf, partFits, partsFit, closes, rowsSound, containerSound, entrySound, entriesSound, vstSound, sound, wellFormed}
 use Rattle.apdu_writing.specs.declared.writing.ApduWritten.{ApduWritten}
 use Rattle.apdu_writing.specs.declared.writing.ApduWritten.the-variants as written
@@ -185,6 +185,11 @@ element-ranges octets e h =
     let d = both (leb (e .«mark_length») 127) (isInside octets (8 * e .mark) (e .«mark_length»)) (c .1) in
     record { eid = leb-true (e .eid) 127 (b .0); aid = leb-true (e .aid) 31 (c .0); few = leb-true (e .«mark_length») 127 (d .0); inside = d .1 }
 
+-- its entry has no rows, with a mark or without
+pub no-rows : (e : Element) → entryRows (entryOf e) ≡ 0
+unfolding entryRows
+no-rows e = by-test (λ (n : ℕ). n ≡ 0) (ltb 0 (e .«mark_length»)) (λ h. refl) (λ h. refl)
+
 module _ (marks : List ℕ) (t : Taken) (k : Configuration) (can : Sendable marks t k) where
   abbrev e : Element
   e = t .element
@@ -208,7 +213,7 @@ module _ (marks : List ℕ) (t : Taken) (k : Configuration) (can : Sendable mark
 
   vst-written : Written (choice ∷ []) (vstFor t marks k) (4 + (4 + (8 + ((8 + ((8 + (8 + pick q (8 + (8 + 8 * e .«mark_length»)) 0)) + 0)) + ((16 + (16 + 16)) + 0)))))
   unfolding vstFor valuesOf vstValues entriesValues entryValues rowsValues rowsOf
-  vst-written = let s = can .served in message-written (t .profile) (omega arith) entered configured
+  vst-written = let s = can .served in rw (no-rows (t .element)) (message-written (t .profile) (omega arith) entered configured)
 
   pub vst-short : size (vstFor t marks k) ≤ 512
   vst-short =
@@ -224,11 +229,11 @@ module _ (marks : List ℕ) (t : Taken) (k : Configuration) (can : Sendable mark
 
     pub vst-values : valuesOf marks message (entryOf e ∷ es) rs ≡ vstFor t marks k
     unfolding vstFor valuesOf vstValues entriesValues rowsOf
-    vst-values = refl
+    vst-values = rw (no-rows (t .element))
 
     vst-sound : sound (length marks) message (entryOf e ∷ es) rs ≡ true
     unfolding sound vstSound entriesSound entrySound containerSound partFits rowsSound partsFit closes
-    vst-sound = marked q (ranged .inside)
+    vst-sound = rw (no-rows (t .element)) (marked q (ranged .inside))
       where
         marked : (q : Bool) {i : Bool} → i ≡ true → (soundIf q (i && true) && true) ≡ true
         marked true h = rw h

@@ -1,4 +1,4 @@
--- The tag's own elements (01, "The tag's link"): "at most 8, different eids 1 to 127, AID up to 31, mark of 0 to 127 octets inside lent octets".
+-- The tag's own elements (01, "The tag's link"): how many, with which eids and AIDs, and where their marks lie.
 -- Assumes nothing.
 use Prim.Native.Nat.{ℕ, _*_}
 use mathlib.Core.Bool.{Bool, true, not, _&&_}

@@ -1,4 +1,4 @@
--- When a ready tag has answered a beacon already (01, "The tag's link"): "Same beacon and 0 to 254: silent."
+-- When a ready tag has answered a beacon already (01, "The tag's link"): the beacon is its own, and the time went on, but not far.
 -- Assumes nothing.
 use Prim.Native.Nat.{ℕ}
 use mathlib.Core.Bool.{Bool, false, _&&_}

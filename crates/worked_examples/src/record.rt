@@ -3,17 +3,23 @@ use crate::print::decimal;
 use crate::print::octets;
 use crate::print::refused;
 use crate::print::text;
+use apdu::Entry;
+use apdu::Lists;
 use apdu::Message;
 use apdu::Request;
+use apdu::Row;
+use apdu::Vst;
 use apdu_writing::ApduWritten;
 
-fn write(label: &[u8], m: Message, lent: &[u8], out: &mut [u8]) {
+fn write(label: &[u8], m: Message, lists: Lists, lent: &[u8], out: &mut [u8]) {
     text(b"write ");
     text(label);
     text(b" into ");
     decimal(out.len() as u64);
     text(b":");
-    let answer = apdu_writing::write(m, apdu::no_rows(), apdu::no_entries(), lent, out);
+    let rows = lists.rows;
+    let entries = lists.entries;
+    let answer = apdu_writing::write(m, rows, entries, lent, out);
     match answer {
         ApduWritten::RecordOutOfRange => {
             text(b" ");
@@ -72,16 +78,76 @@ fn echo(kind: u64, n: u64, start: usize) -> Request {
     }
 }
 
+fn no_lists() -> Lists {
+    let entries = apdu::no_entries();
+    let rows = apdu::no_rows();
+    Lists { entries, rows }
+}
+
+// A VST of two applications: the first without a parameter, though it counts rows; the second with the only row that there is.
+fn two_applications() -> Vst {
+    Vst {
+        fill: 0,
+        profile: 0,
+        applications: 2,
+        class: 1,
+        maker: 5,
+        has_status: false,
+        status: 99999,
+    }
+}
+
+fn their_lists(rows: u8) -> Lists {
+    let mut entries = apdu::no_entries();
+    entries[0] = Entry {
+        has_eid: false,
+        has_parameter: false,
+        aid: 1,
+        eid: 200,
+        kind: 9,
+        n: 1,
+        start: 9999,
+        rows,
+    };
+    entries[1] = Entry {
+        has_eid: true,
+        has_parameter: true,
+        aid: 2,
+        eid: 3,
+        kind: 9,
+        n: 1,
+        start: 0,
+        rows: 1,
+    };
+    let mut table = apdu::no_rows();
+    table[0] = Row {
+        id: 5,
+        kind: 2,
+        n: 2,
+        start: 0,
+    };
+    Lists {
+        entries,
+        rows: table,
+    }
+}
+
+fn into_twenty(label: &[u8], m: Message, lists: Lists) {
+    let lent = [0x41u8, 0x42];
+    let mut out = [0xFFu8; 20];
+    write(label, m, lists, &lent, &mut out);
+}
+
 fn into_five(label: &[u8], m: Message) {
     let lent = [0x41u8, 0x42];
     let mut out = [0xFFu8; 5];
-    write(label, m, &lent, &mut out);
+    write(label, m, no_lists(), &lent, &mut out);
 }
 
 fn into_eight(label: &[u8], m: Message) {
     let lent = [0x41u8, 0x42];
     let mut out = [0xFFu8; 8];
-    write(label, m, &lent, &mut out);
+    write(label, m, no_lists(), &lent, &mut out);
 }
 
 pub(crate) fn run() {
@@ -113,5 +179,20 @@ pub(crate) fn run() {
     into_eight(
         b"parameter of kind 3",
         Message::ActionRequest(echo(3, 0, 0)),
+    );
+    into_twenty(
+        b"vst with an absent parameter of 0 rows",
+        Message::Vst(two_applications()),
+        their_lists(0),
+    );
+    into_twenty(
+        b"vst with an absent parameter of 1 row",
+        Message::Vst(two_applications()),
+        their_lists(1),
+    );
+    into_twenty(
+        b"vst with an absent parameter of 255 rows",
+        Message::Vst(two_applications()),
+        their_lists(255),
     );
 }

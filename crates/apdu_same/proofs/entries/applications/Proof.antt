@@ -60,14 +60,14 @@ returns c =
     let a = c .before .before .before .before .before .before .before .before .before .args in
     sym (l .inv .6 ∙ entry-other _ _ _ _ _ _ (l .i) (l .used) (l .gone) (part-entry (a .t2) (a .from) (a .n) (l .i) (l .inv .1) h) (part-entry (a .t6) (a .from) (a .n) (l .i) (l .inv .2) h) (omega arith) (omega arith) (c .before .entry .ensures) (c .if1 .taken))
 
+entry-rows-requires : tie.Need-entry-rows-requires Inv-loop μ-loop
+entry-rows-requires c κs = tt
+
+entry-rows-requires-2 : tie.Need-entry-rows-requires-2 Inv-loop μ-loop
+entry-rows-requires-2 c κs = tt
+
 lists-rows-requires : tie.Need-lists-rows-requires Inv-loop μ-loop
 lists-rows-requires c κs = tt
-
-cast-rows : tie.Need-cast-rows Inv-loop μ-loop
-cast-rows c = search needs
-
-cast-rows-2 : tie.Need-cast-rows-2 Inv-loop μ-loop
-cast-rows-2 c = search needs
 
 rows-requires : tie.Need-rows-requires Inv-loop μ-loop
 rows-requires c κs = tt
@@ -77,19 +77,13 @@ returns-2 c =
     let l = c .before .before .before .before .before .before .before .before .before .before .before .loop in
     let h = c .before .before .before .before .before .before .before .before .before .before .loop-test .taken in
     let a = c .before .before .before .before .before .before .before .before .before .before .before .before .before .before .before .args in
-    sym (l .inv .6 ∙ rows-other _ _ _ _ _ _ (l .i) (l .used) (l .gone) (part-entry (a .t2) (a .from) (a .n) (l .i) (l .inv .1) h) (part-entry (a .t6) (a .from) (a .n) (l .i) (l .inv .2) h) (omega arith) (omega arith) (c .before .before .before .before .before .before .before .entry .ensures) (c .before .before .before .before .before .before .if1 .left) (c .before .before .before .before .before .lists-rows .ensures) (c .before .before .before .before .if2 .taken) (c .before .rows .ensures) (c .if3 .taken))
-
-cast-used : tie.Need-cast-used Inv-loop μ-loop
-cast-used c = search needs
+    sym (l .inv .6 ∙ rows-other _ _ _ _ _ _ (l .i) (l .used) (l .gone) (part-entry (a .t2) (a .from) (a .n) (l .i) (l .inv .1) h) (part-entry (a .t6) (a .from) (a .n) (l .i) (l .inv .2) h) (omega arith) (omega arith) (c .before .before .before .before .before .before .before .entry .ensures) (c .before .before .before .before .before .before .if1 .left) (c .before .before .before .before .before .entry-rows .ensures .0) (c .before .before .before .before .entry-rows2 .ensures .0) (c .before .before .before .lists-rows .ensures) (c .before .before .if2 .taken) (c .before .rows .ensures) (c .if3 .taken))
 
 add-used : tie.Need-add-used Inv-loop μ-loop
-add-used c = omega (arith, c .struct-known3 .given, c .before .before .before .before .before .before .before .before .loop .inv, c .before .before .before .before .before .before .before .before .before .before .before .before .pre)
-
-cast-gone : tie.Need-cast-gone Inv-loop μ-loop
-cast-gone c = search needs
+add-used c = omega (arith, c .before .before .before .entry-rows .ensures .1, c .before .before .before .before .before .before .before .before .before .loop .inv, c .before .before .before .before .before .before .before .before .before .before .before .before .before .pre)
 
 add-gone : tie.Need-add-gone Inv-loop μ-loop
-add-gone c = omega (arith, c .struct-known4 .given, c .before .before .before .before .before .before .before .before .before .loop .inv, c .before .before .before .before .before .before .before .before .before .before .before .before .before .pre)
+add-gone c = omega (arith, c .before .before .entry-rows2 .ensures .1, c .before .before .before .before .before .before .before .before .before .loop .inv, c .before .before .before .before .before .before .before .before .before .before .before .before .before .pre)
 
 add-i : tie.Need-add-i Inv-loop μ-loop
 add-i c = omega arith
@@ -101,17 +95,19 @@ loop-again : tie.Need-loop-again Inv-loop μ-loop
 loop-again c =
     let l = c .before .before .before .before .before .before .before .before .before .loop in
     let h = c .before .before .before .before .before .before .before .before .loop-test .taken in
-    let a = c .before .before .before .before .before .before .before .before .before .before .before .before .before .args in (
+    let a = c .before .before .before .before .before .before .before .before .before .before .before .before .before .args in
+    let own = c .before .before .before .entry-rows .ensures in
+    let theirs = c .before .before .entry-rows2 .ensures in (
       omega arith,
       l .inv .1,
       l .inv .2,
       l .inv .3,
-      omega (arith, c .before .struct-known3 .given),
-      omega (arith, c .struct-known4 .given),
+      omega (arith, own .1),
+      omega (arith, theirs .1),
       l .inv .6
           ∙ ⊎-elim
-          (λ x. rows-same _ _ _ _ _ _ (l .i) (l .used) (l .gone) (part-entry (a .t2) (a .from) (a .n) (l .i) (l .inv .1) h) (part-entry (a .t6) (a .from) (a .n) (l .i) (l .inv .2) h) (omega arith) (omega arith) (c .before .before .before .before .before .entry .ensures) (c .before .before .before .before .if1 .left) (c .before .before .before .lists-rows .ensures) (x .0 .taken) (x .3 .ensures) (x .4 .left))
-          (λ x. entry-passed _ _ _ _ _ _ (l .i) (l .used) (l .gone) (part-entry (a .t2) (a .from) (a .n) (l .i) (l .inv .1) h) (part-entry (a .t6) (a .from) (a .n) (l .i) (l .inv .2) h) (omega arith) (omega arith) (c .before .before .before .before .before .entry .ensures) (c .before .before .before .before .if1 .left) (c .before .before .before .lists-rows .ensures) (x .left)) (c .before .before .if2 .came),
+          (λ x. rows-same _ _ _ _ _ _ (l .i) (l .used) (l .gone) (part-entry (a .t2) (a .from) (a .n) (l .i) (l .inv .1) h) (part-entry (a .t6) (a .from) (a .n) (l .i) (l .inv .2) h) (omega arith) (omega arith) (c .before .before .before .before .before .entry .ensures) (c .before .before .before .before .if1 .left) (own .0) (theirs .0) (c .before .lists-rows .ensures) (x .0 .taken) (x .1 .ensures) (x .2 .left))
+          (λ x. entry-passed _ _ _ _ _ _ (l .i) (l .used) (l .gone) (part-entry (a .t2) (a .from) (a .n) (l .i) (l .inv .1) h) (part-entry (a .t6) (a .from) (a .n) (l .i) (l .inv .2) h) (omega arith) (omega arith) (c .before .before .before .before .before .entry .ensures) (c .before .before .before .before .if1 .left) (own .0) (theirs .0) (c .before .lists-rows .ensures) (x .left)) (c .if2 .came),
     )
 
 returns-3 : tie.Need-returns-3 Inv-loop μ-loop
@@ -133,14 +129,12 @@ applications-spec =
     array-copy-out-f
     entry-requires
     returns
+    entry-rows-requires
+    entry-rows-requires-2
     lists-rows-requires
-    cast-rows
-    cast-rows-2
     rows-requires
     returns-2
-    cast-used
     add-used
-    cast-gone
     add-gone
     add-i
     loop-less

@@ -29,11 +29,11 @@ mul-e c = omega arith
 array-copy-out-e : tie.Need-array-copy-out-e Inv-loop μ-loop
 array-copy-out-e c = omega arith
 
-cast-used : tie.Need-cast-used Inv-loop μ-loop
-cast-used c = search needs
+entry-rows-requires : tie.Need-entry-rows-requires Inv-loop μ-loop
+entry-rows-requires c κs = tt
 
 add-used : tie.Need-add-used Inv-loop μ-loop
-add-used c = omega (arith, c .struct-known .given)
+add-used c = omega (arith, c .entry-rows .ensures .1)
 
 add-i : tie.Need-add-i Inv-loop μ-loop
 add-i c = omega arith
@@ -46,7 +46,7 @@ loop-again c =
     let l = c .before .before .before .loop in
     let a = c .before .before .before .before .before in
     let t : length (a .args .t1) ≡ 32 = search (long, a .good .0 .1) in
-    (omega arith, omega (arith, c .struct-known .given), rows-more _ (l .i) refl (omega arith) (l .inv .2))
+    (omega arith, omega (arith, c .entry-rows .ensures .1), rows-more _ (l .i) refl (c .entry-rows .ensures .0) (omega arith) (l .inv .2))
 
 returns : tie.Need-returns Inv-loop μ-loop
 returns c =
@@ -66,7 +66,7 @@ rows-of-spec =
     loop-holds
     mul-e
     array-copy-out-e
-    cast-used
+    entry-rows-requires
     add-used
     add-i
     loop-less

@@ -5,6 +5,7 @@ use mathlib.Core.Path.{_∙_}
 use borrow.Author.Needs.{needs}
 use Rattle.apdu_text.specs.Parts.{entryText}
 use Rattle.apdu_text.proofs.Inking.{inks-then}
+use Rattle.apdu_text.proofs.Applications.{entry-inks}
 use Rattle.apdu_text.proofs.entries.entry.Statement.{statement}
 use Rattle.apdu_text.proofs.entries.entry.Tie as tie
 
@@ -26,14 +27,14 @@ number-if-requires c κs = tt
 slice-aggregate-container-if : tie.Need-slice-aggregate-container-if
 slice-aggregate-container-if c = refl
 
+entry-rows-requires : tie.Need-entry-rows-requires
+entry-rows-requires c κs = tt
+
 cast-container-if : tie.Need-cast-container-if
 cast-container-if c = search needs
 
 cast-container-if-2 : tie.Need-cast-container-if-2
 cast-container-if-2 c = search needs
-
-cast-container-if-3 : tie.Need-cast-container-if-3
-cast-container-if-3 c = search needs
 
 container-if-requires : tie.Need-container-if-requires
 container-if-requires c κs = tt
@@ -43,7 +44,7 @@ same-length c = c .before .before .container-if .kept .1 .0 ∙ c .before .befor
 
 returns : tie.Need-returns
 unfolding entryText
-returns c = inks-then (c .before .before .before .before .before .before .before .before .before .before .before .before .before .before .before .before .put-decimal .ensures) (inks-then (c .before .before .before .before .before .before .before .before .before .before .number-if .ensures) (c .before .before .container-if .ensures))
+returns c = entry-inks _ _ _ (c .before .before .before .before .before .entry-rows .ensures .0) (inks-then (c .before .before .before .before .before .before .before .before .before .before .before .before .before .before .before .before .put-decimal .ensures) (inks-then (c .before .before .before .before .before .before .before .before .before .before .number-if .ensures) (c .before .before .container-if .ensures)))
 
 pub entry-spec : {M : Type 1} → statement M
-entry-spec = tie.close (tie.spec cast-put-decimal put-decimal-requires slice-aggregate-number-if cast-number-if number-if-requires slice-aggregate-container-if cast-container-if cast-container-if-2 cast-container-if-3 container-if-requires same-length returns)
+entry-spec = tie.close (tie.spec cast-put-decimal put-decimal-requires slice-aggregate-number-if cast-number-if number-if-requires slice-aggregate-container-if entry-rows-requires cast-container-if cast-container-if-2 container-if-requires same-length returns)
