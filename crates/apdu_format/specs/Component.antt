@@ -1,4 +1,4 @@
--- What messages are made of (01, "Messages": "A component is .."; ISO 15628, Annex A). 01's leading part is two of these, choice and lead; its octet
+-- What messages are made of (01, "Messages", its components; ISO 15628, Annex A). 01's leading part is two of these, choice and lead; its octet
 -- string is three, form, length and octets; and listStart is none: it takes no bit, and notes where a list of ids starts.
 -- Assumes nothing.
 use Prim.Native.Nat.{ℕ}

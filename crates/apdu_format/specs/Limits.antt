@@ -18,6 +18,6 @@ mostRows = 32
 abbrev pub deepest : ℕ
 deepest = 4
 
--- the octets of an octet string: what its length's seven bits can say
+-- the octets of an octet string: what its length's seven bits can say, so that no check has to
 abbrev pub longestString : ℕ
 longestString = 127

@@ -1,4 +1,4 @@
--- Reading (01, "Messages": "Reading checks 21 first, then goes left to right and the first fault decides"). Places are bit places; the position of a
+-- Reading (01, "Messages"): the length first, then component by component from the left, up to the first fault. Places are bit places; the position of a
 -- refusal is the octet of its place. One step reads one component; what it brings is read before what follows it.
 -- Assumes nothing.
 use Prim.Native.Nat.{ℕ, zero, suc, _+_, _-_, _*_, _/_}

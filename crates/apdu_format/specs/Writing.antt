@@ -1,4 +1,4 @@
--- Writing (01, "Messages": "Writing checks 23, 21, 22"): the values of a message along the same components, with the checks that reading makes of each.
+-- Writing (01, "Messages"): the values of a message along the same components, with the checks that reading makes of each.
 -- Assumes nothing.
 use Prim.Native.Nat.{ℕ, zero, suc, _+_, _-_, _*_, _/_, _^_}
 use mathlib.Core.List.{List, [], _∷_, _++_}

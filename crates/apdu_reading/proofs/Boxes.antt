@@ -2,7 +2,7 @@
 -- Assumes nothing.
 use Prim.Native.Nat.{ℕ, zero, suc, _+_, _≤_}
 use mathlib.Core.Path.{_≡_, refl, ap, sym, _∙_}
-use mathlib.Core.List.{List, [], _∷_, _++_, append-assoc}
+use mathlib.Core.List.{List, [], _∷_, _++_, append-assoc, append-nil}
 use mathlib.Core.Bool.{Bool, true, false}
 use native.Mathlib.Omega.{arith}
 use lib.ListN.{length, getD, take, replicate}
@@ -11,12 +11,13 @@ use borrow.Author.Tests.{eq-eqb}
 use Rattle.refusals.specs.Check.{pick}
 use Rattle.refusals.proofs.Tests.{and-true}
 use Rattle.bits.specs.Bits.{bits}
-use Rattle.apdu_format.specs.Component.{Component}
-use Rattle.apdu_format.specs.Rules.{times}
+use Rattle.apdu_format.specs.Component.{Component, rowCount, container}
+use Rattle.apdu_format.specs.Rules.{when, times}
 use Rattle.apdu_format.specs.Reading.{Value, State}
 use Rattle.apdu_format.proofs.Runs.{runs-none}
 use Rattle.apdu.specs.declared.lists.Row.{Row}
-use Rattle.apdu.specs.Values.{num, if, headValues, rowValues, rowsValues, emptyRow}
+use Rattle.apdu.specs.Values.{num, if, headValues, rowValues, rowsValues, containerValues, emptyRow}
+use Rattle.apdu.specs.Tidy.{RowsTidy}
 use Rattle.apdu.specs.Sound.{nested, rowsSound, containerSound}
 use Rattle.apdu.proofs.Dues.{two, one, due-two, due-one, total-two, total-one}
 use Rattle.apdu_reading.specs.declared.cursor.Cursor.{Cursor}
@@ -27,9 +28,8 @@ use Rattle.apdu_reading.specs.Cursor.{stateOf, Reads}
 use Rattle.apdu.specs.RowCounters.{row, total}
 use Rattle.apdu_reading.specs.Lists.{Leads, Ready, Filled}
 use Rattle.apdu_reading.specs.Optional.{HeadMaybe, AttributesMaybe}
-use Rattle.apdu_reading.specs.Boxed.{Boxed, Listed}
-use Rattle.apdu_reading.proofs.Chains.{valued, clean}
-use Rattle.apdu_reading.proofs.Fill.{filled-none}
+use Rattle.apdu_reading.specs.Messages.{unread}
+use Rattle.apdu_reading.proofs.Chains.{Same, same-fault, state-log, valued, clean}
 
 -- ---- leads and readings
 
@@ -71,13 +71,24 @@ pub if-join : (p : Bool) (vs ws : List Value) → (p ≡ false → ws ≡ []) �
 if-join true vs ws h = refl
 if-join false vs ws h = h refl
 
+-- the rows behind the used ones are empty, and where nothing was there none is used
+pub record Kept (p : Bool) (r : Rows) : Type 0 where
+  pub rest : RowsTidy (r .used) (r .rows)
+  pub none : p ≡ false → r .cursor .fault ≡ 0 → r .used ≡ 0
+
 -- ---- a container with its rows
 
-module _ (s : List ℕ) (p : Bool) (c : Cursor) {h : Head} (m : HeadMaybe s p c h) {n : ℕ} (e : n ≡ nested (h .kind) (h .n)) where
-  pub box-ready : {rows : List Row} → c .room ≡ 32 → rows ≡ replicate 32 emptyRow → Ready (two n) (rowsAt (h .cursor) 0 rows)
-  box-ready r f = fresh (two n) (h .cursor) f (λ z. let a = m .room z in omega arith)
+pub record Boxed (s : List ℕ) (p : Bool) (c : Cursor) (kind n start : ℕ) (r : Rows) : Type 0 where
+  pub reads : Reads s (when p (container 1 ∷ [])) c (r .cursor) (if p (containerValues s kind n start (take (r .used) (r .rows))))
+  pub sound : r .cursor .fault ≡ 0 → containerSound (length s) kind n start (take (r .used) (r .rows)) ≡ true
+  pub absent : p ≡ false → (kind ≡ 0) × (n ≡ 0) × (start ≡ 0)
+  pub kept : Kept p r
 
-  module _ {rows : List Row} {q : Rows} (f : Filled s (two n) (rowsAt (h .cursor) 0 rows) q) where
+module _ (s : List ℕ) (p : Bool) (c : Cursor) {h : Head} (m : HeadMaybe s p c h) {n : ℕ} (e : n ≡ nested (h .kind) (h .n)) where
+  pub box-room : c .room ≡ 32 → h .cursor .fault ≡ 0 → 0 + n + h .cursor .room ≡ 32
+  box-room r z = let a = m .room z in omega arith
+
+  module _ {q : Rows} (f : Filled s (two n) (unread (h .cursor)) q) where
     rows-read : Reads s (times (nested (h .kind) (h .n)) (row 2)) (h .cursor) (q .cursor) (rowsValues s (take (q .used) (q .rows)))
     rows-read = rw (ap (λ (k : ℕ). times k (row 2)) (sym e) ∙ sym (due-two n)) (f .reads)
 
@@ -94,7 +105,7 @@ module _ (s : List ℕ) (p : Bool) (c : Cursor) {h : Head} (m : HeadMaybe s p c 
         let t : nested (h .kind) (h .n) ≡ total (two n) = sym (total-two n ∙ e) in
         and-true (m .parts (clean (f .reads) g)) (ap (λ (k : ℕ). rowsSound (length s) k (take (q .used) (q .rows))) t ∙ f .sound g)
 
-    pub boxed : Boxed s p c (record { kind = h .kind; n = h .n; start = h .start; rows = q })
+    pub boxed : Boxed s p c (h .kind) (h .n) (h .start) q
     boxed =
         record {
           reads = valued (λ g. if-join p (headValues s (h .kind) (h .n) (h .start)) (rowsValues s (take (q .used) (q .rows))) (λ z. none-found z g)) (and-then (m .leads) rows-read);
@@ -104,21 +115,22 @@ module _ (s : List ℕ) (p : Bool) (c : Cursor) {h : Head} (m : HeadMaybe s p c 
               record {
                 rest = f .rest;
                 none = λ z g. no-rows s (q .used) (q .rows) (none-found z g) (let l = f .long in let u = f .few in omega arith);
-                few = f .few;
               };
         }
 
-  pub boxed-alone : {rows : List Row} → c .room ≡ 32 → rows ≡ replicate 32 emptyRow → n ≡ 0
-      → Boxed s p c (record { kind = h .kind; n = h .n; start = h .start; rows = rowsAt (h .cursor) 0 rows })
-  boxed-alone r f z = boxed (filled-none s (two n) (box-ready r f) (total-two n ∙ z))
-
 -- ---- an attribute list with its rows
 
-module _ (s : List ℕ) (p : Bool) (c : Cursor) {d : Cursor} (m : AttributesMaybe s p c d) where
-  pub list-ready : {rows : List Row} → c .room ≡ 32 → rows ≡ replicate 32 emptyRow → Ready (one (d .value)) (rowsAt d 0 rows)
-  list-ready r f = fresh (one (d .value)) d f (λ z. let a = m .room z in omega arith)
+pub record Listed (s : List ℕ) (p : Bool) (c : Cursor) (count : ℕ) (r : Rows) : Type 0 where
+  pub reads : Reads s (when p (rowCount 1 ∷ [])) c (r .cursor) (if p (num count ∷ rowsValues s (take (r .used) (r .rows))))
+  pub sound : r .cursor .fault ≡ 0 → rowsSound (length s) count (take (r .used) (r .rows)) ≡ true
+  pub absent : p ≡ false → count ≡ 0
+  pub kept : Kept p r
 
-  module _ {rows : List Row} {q : Rows} (f : Filled s (one (d .value)) (rowsAt d 0 rows) q) where
+module _ (s : List ℕ) (p : Bool) (c : Cursor) {d : Cursor} (m : AttributesMaybe s p c d) where
+  pub list-room : c .room ≡ 32 → d .fault ≡ 0 → d .value + 0 + d .room ≡ 32
+  list-room r z = let a = m .room z in omega arith
+
+  module _ {q : Rows} (f : Filled s (one (d .value)) (unread d) q) where
     list-read : Reads s (times (d .value) (row 1)) d (q .cursor) (rowsValues s (take (q .used) (q .rows)))
     list-read = rw (sym (due-one (d .value))) (f .reads)
 
@@ -126,7 +138,7 @@ module _ (s : List ℕ) (p : Bool) (c : Cursor) {d : Cursor} (m : AttributesMayb
     unfolding times
     nothing-found z g = found-nothing (rw (m .absent z) at list-read) g
 
-    pub listed : Listed s p c (record { count = d .value; rows = q })
+    pub listed : Listed s p c (d .value) q
     listed =
         record {
           reads = valued (λ g. if-join p (num (d .value) ∷ []) (rowsValues s (take (q .used) (q .rows))) (λ z. nothing-found z g)) (and-then (m .leads) list-read);
@@ -136,6 +148,29 @@ module _ (s : List ℕ) (p : Bool) (c : Cursor) {d : Cursor} (m : AttributesMayb
               record {
                 rest = f .rest;
                 none = λ z g. no-rows s (q .used) (q .rows) (nothing-found z g) (let l = f .long in let u = f .few in omega arith);
-                few = f .few;
               };
         }
+
+-- ---- a message without rows
+
+-- where nothing is read the cursor stays
+pub stays : {s : List ℕ} {c r : Cursor} {vs : List Value} → Reads s [] c r vs → Same c r
+stays {s} {c} {r} {vs} p =
+    record {
+      so = λ log.
+          sym (runs-none (bits s) (stateOf c log)) ∙ p .so log
+          ∙ state-log r (log ++ vs) log (λ z. ap (λ (l : List Value). log ++ l) (found-nothing p z) ∙ append-nil log);
+    }
+
+module _ {s : List ℕ} {c : Cursor} {q : Rows} (f : Filled s (two 0) (unread c) q) where
+  none-read : Reads s [] c (q .cursor) (rowsValues s (take (q .used) (q .rows)))
+  unfolding times
+  none-read = rw (sym (due-two 0)) (f .reads)
+
+  pub rowless : Same c (q .cursor)
+  rowless = stays none-read
+
+  pub rowless-tidy : q .cursor .fault ≡ 0 → RowsTidy 0 (q .rows)
+  rowless-tidy z =
+      let n : q .used ≡ 0 = no-rows s (q .used) (q .rows) (found-nothing none-read z) (let l = f .long in let u = f .few in omega arith) in
+      rw (sym n) (f .rest)

@@ -1,6 +1,6 @@
 -- Application entries: an octet, what its bits say is there, and the rows of its parameter; and lists of them.
 -- Assumes nothing.
-use Prim.Native.Nat.{ℕ, _-_, _/_, _%_, _<_}
+use Prim.Native.Nat.{ℕ, _+_, _-_, _/_, _%_, _<_}
 use mathlib.Core.Path.{_≡_, refl, ap, sym, _∙_}
 use mathlib.Core.List.{List, [], _∷_, _++_, append-assoc, append-nil}
 use mathlib.Core.Bool.{Bool, true, false}
@@ -10,7 +10,7 @@ use lib.Seq.{length-take-le}
 use lib.Dec.{eqb}
 use borrow.Author.Tests.{eqb-true, eqb-false}
 use Rattle.refusals.specs.Check.{check, firstOf}
-use Rattle.refusals.proofs.Tests.{by-cases, and-true, first-none}
+use Rattle.refusals.proofs.Tests.{by-test, by-cases, and-true, first-none}
 use Rattle.bits.specs.Bits.{bits, readField}
 use Rattle.apdu_format.specs.Component.{Component, integer, entry, container}
 use Rattle.apdu_format.specs.Rules.{shape, brings, when, times, checksOf, announced}
@@ -18,7 +18,7 @@ use Rattle.apdu_format.specs.Reading.{Value, fields, numbersOf, sum, need, fiel
 use Rattle.apdu_format.proofs.Runs.{runs-append}
 use Rattle.apdu.specs.declared.lists.Row.{Row}
 use Rattle.apdu.specs.declared.lists.Entry.{Entry}
-use Rattle.apdu.specs.Values.{bitOf, num-if, if, headValues, rowValues, rowsValues, entryValues}
+use Rattle.apdu.specs.Values.{bitOf, num-if, if, headValues, rowValues, rowsValues, entryValues, entryRows}
 use Rattle.apdu.specs.Sound.{nested, rowsSound, containerSound, entrySound}
 use Rattle.apdu.proofs.Laws.{sound-if}
 use Rattle.apdu.proofs.Dues.{two, due-two, total-two}
@@ -199,12 +199,19 @@ module _ (s : List ℕ) (r : Rows) (o : Open r) {h : EntryHead} (p : EntryOpens 
         let t : nested (h .entry .kind) (h .entry .n) ≡ total (two (h .due)) = sym (total-two (h .due) ∙ p .counts) in
         sound-if (h .entry .«has_parameter») (and-true (p .parts (clean (f .reads) g)) (ap (λ (k : ℕ). rowsSound (length s) k new) t ∙ f .sound g))
 
-    pub entry-whole : EntryWhole s r (record { entry = entryWith; rows = q })
-    entry-whole =
+    -- without a parameter no rows are announced
+    entry-used : (h .due ≡ 0 → q .used ≡ r .used) → r .used + entryRows entryWith ≡ q .used
+    unfolding entryRows
+    entry-used none =
+        let m = f .more in
+        by-test (λ (n : ℕ). r .used + n ≡ q .used) (h .entry .«has_parameter») (λ z. omega arith) (λ z. let e = none (p .parameter .are z .1 .1 .1 .0) in omega arith)
+
+    pub entry-whole : (h .due ≡ 0 → q .used ≡ r .used) → EntryWhole s r (record { entry = entryWith; rows = q })
+    entry-whole none =
         record {
           reads = valued entry-values (and-then (p .leads) due-read);
           grown = record { free = record { sum = f .sum; rest = f .rest; long = f .long; few = f .few }; more = f .more; kept = f .kept };
-          rows = let m = f .more in omega arith;
+          rows = entry-used none;
           sound = entry-sound;
           tidy = λ g. (
             p .eid,
@@ -216,4 +223,4 @@ module _ (s : List ℕ) (r : Rows) (o : Open r) {h : EntryHead} (p : EntryOpens 
   pub entry-alone : h .due ≡ 0 → EntryWhole s r (record { entry = h .entry; rows = record { cursor = h .cursor; used = r .used; rows = r .rows } })
   entry-alone z =
       let e : r .used - r .used ≡ h .entry .rows = omega (arith, p .none) in
-      rw e at (entry-whole (filled-none s (two (h .due)) entry-ready (total-two (h .due) ∙ z)))
+      rw e at (entry-whole (filled-none s (two (h .due)) entry-ready (total-two (h .due) ∙ z)) (λ x. refl))

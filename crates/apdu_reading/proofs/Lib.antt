@@ -9,9 +9,11 @@ pub mod Fill
 pub mod Absent
 pub mod Boxes
 pub mod Leads
-pub mod ServiceMessages
 pub mod EntryLaws
+pub mod Stores
 pub mod StoreLaws
 pub mod LinkLaws
+pub mod ChoiceLaws
+pub mod ServiceMessages
 pub mod FrontLaws
 pub mod Encoded

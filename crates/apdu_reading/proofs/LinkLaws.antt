@@ -23,13 +23,12 @@ use Rattle.apdu.specs.Values.{bitOf, num, if, idList, entriesValues, rowsOf, li
 use Rattle.apdu.specs.Sound.{entriesSound, bstSound, vstSound}
 use Rattle.apdu.proofs.Laws.{sound-if, own-sound, rows-of-append}
 use Rattle.apdu_reading.specs.declared.cursor.Cursor.{Cursor}
-use Rattle.apdu_reading.specs.declared.applications.Applications.{Applications}
-use Rattle.apdu_reading.specs.declared.link.AppList.{AppList}
 use Rattle.apdu_reading.specs.declared.link.Configuration.{Configuration}
 use Rattle.apdu_reading.specs.Cursor.{component, pieceOf, Reads, Inside}
 use Rattle.apdu_reading.specs.Lists.{between}
-use Rattle.apdu_reading.specs.Applications.{StoreReady, Stored, CountMaybe, ListMaybe, ConfigurationRead}
-use Rattle.apdu_reading.specs.Messages.{Begun, BstRead, VstRead}
+use Rattle.apdu_reading.specs.Applications.{CountMaybe, ConfigurationRead}
+use Rattle.apdu_reading.specs.Messages.{Begun}
+use Rattle.apdu_reading.proofs.Stores.{Applications, AppList, StoreReady, Stored, ListMaybe, BstRead, VstRead}
 use Rattle.apdu_reading.proofs.Pieces.{sees, good, fine}
 use Rattle.apdu_reading.proofs.Components.{lead-is, fixed-is}
 use Rattle.apdu_reading.proofs.Chains.{valued, itself, nothing, then, still, clean, enter, alone}
@@ -67,6 +66,10 @@ module _ (s : List ℕ) (p : Bool) (base : ℕ) (a : Applications) (o : StoreRea
         small = m .small;
         absent = m .absent;
       }
+
+-- behind the first list, which begins at place 0
+pub first-ready : {s : List ℕ} {a : Applications} {f : AppList} → ListMaybe s true 0 a f → StoreReady (f .count) (f .list)
+first-ready {f = f} p = rw (zero-add (f .count)) at (p .ready)
 
 -- ---- numbers of whole octets
 

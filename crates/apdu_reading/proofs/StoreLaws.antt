@@ -5,7 +5,7 @@ use mathlib.Core.Path.{_≡_, refl, ap, sym, _∙_}
 use mathlib.Core.List.{List, [], _∷_, _++_, append-nil}
 use mathlib.Core.Bool.{Bool, true, false}
 use native.Mathlib.Numerals.{add-one}
-use native.Mathlib.Nat.{add-zero}
+use native.Mathlib.Nat.{add-zero, zero-add, le-antisymm}
 use native.Mathlib.Omega.{arith}
 use lib.ListN.{length, getD, take, drop, set, length-set, length-drop, take-append-drop}
 use lib.Seq.{drop-append-le, take-take, length-take-le, take-set-le, getD-set-same, getD-set-other}
@@ -17,17 +17,17 @@ use Rattle.apdu_format.specs.Component.{Component, entry, entryCount}
 use Rattle.apdu_format.specs.Rules.{brings, times, announced}
 use Rattle.apdu_format.specs.Reading.{numbersOf, runs}
 use Rattle.apdu.specs.declared.lists.Entry.{Entry}
-use Rattle.apdu.specs.Values.{num, entryValues, entriesValues, rowsOf, emptyEntry}
+use Rattle.apdu.specs.Values.{num, entryValues, entriesValues, entryRows, rowsOf, emptyEntry}
 use Rattle.apdu.specs.Tidy.{entryTidy}
 use Rattle.apdu.specs.Sound.{entriesSound}
 use Rattle.apdu.proofs.Laws.{rows-of-snoc, entries-more, sound-more}
 use Rattle.apdu_reading.specs.declared.cursor.Cursor.{Cursor}
 use Rattle.apdu_reading.specs.declared.rows.Rows.{Rows}
 use Rattle.apdu_reading.specs.declared.applications.EntryRead.{EntryRead}
-use Rattle.apdu_reading.specs.declared.applications.Applications.{Applications}
 use Rattle.apdu_reading.specs.Cursor.{cursor, stateOf, component, markedAt}
 use Rattle.apdu_reading.specs.Lists.{Leads, between}
-use Rattle.apdu_reading.specs.Applications.{Grown, EntryWhole, StoreReady, Stored, CountMaybe}
+use Rattle.apdu_reading.specs.Applications.{Grown, EntryWhole, CountMaybe}
+use Rattle.apdu_reading.proofs.Stores.{Applications, StoreReady, Stored}
 use Rattle.apdu_reading.proofs.Pieces.{sees, silent}
 use Rattle.apdu_reading.proofs.Components.{entries-extended}
 use Rattle.apdu_reading.proofs.Numbers.{extended-read, extended-saw}
@@ -97,7 +97,7 @@ module _ (s : List ℕ) (base : ℕ) (a : Applications) (i : ℕ) {r : Rows} {l 
       let y = length-between (a .rows .used) (r .used) (r .rows) (omega arith) in
       omega arith
 
-  new-rows : t .entry .rows ≡ length (between (r .used) (t .rows .used) (t .rows .rows))
+  new-rows : entryRows (t .entry) ≡ length (between (r .used) (t .rows .used) (t .rows .rows))
   new-rows =
       let n = w .grown .free .long in
       let f = w .grown .free .few in
@@ -139,6 +139,14 @@ module _ (s : List ℕ) (base : ℕ) (a : Applications) (i : ℕ) {r : Rows} {l 
           by-cases (eqb j (base + i))
           (λ e. let k : j ≡ base + i = eqb-true _ _ e in let n = p .ready .long in rw (k, getD-set-same l (base + i) (t .entry) emptyEntry (omega arith)) (w .tidy h))
           (λ e. rw (getD-set-other l (base + i) j (t .entry) emptyEntry (eqb-false _ _ e)) (p .ready .each (clean (w .reads) h) j))
+
+-- the first list begins at place 0
+pub first-more : (s : List ℕ) (a : Applications) (i : ℕ) {r : Rows} {l : List Entry} → Stored s 0 a i (apps r l) → {t : EntryRead} → EntryWhole s r t → i < 32
+    → Stored s 0 a (i + 1) (apps (t .rows) (set l i (t .entry)))
+first-more s a i p w h = rw (zero-add i) at (stored-more s 0 a i p w (let z : 0 + i ≡ i = zero-add i in omega arith))
+
+pub stored-all : {s : List ℕ} {base : ℕ} {a : Applications} {i n : ℕ} {r : Applications} → Stored s base a i r → i ≤ n → n ≤ i → Stored s base a n r
+stored-all p h k = rw (le-antisymm k h) p
 
 -- ---- the count of an application list
 

@@ -2,15 +2,15 @@
 -- their order and the place behind them. Tidy says that absent fields, unused rows and entries are 0, and so is everything beside a refusal. SoundRecord says
 -- that each part which is present lies inside the octets read, and that each list has the rows that its counts announce: what 23 asks besides ranges.
 -- Assumes nothing.
-use Prim.Native.Nat.{ℕ}
+use Prim.Native.Nat.{ℕ, _*_, _/_}
 use mathlib.Core.Path.{_≡_}
 use mathlib.Core.List.{List}
 use mathlib.Core.Bool.{true}
 use lib.ListN.{length, replicate}
-use lib.Dec.{eqb}
+use lib.Dec.{eqb, ltb}
 use Rattle.refusals.specs.Check.{pick}
 use Rattle.apdu_format.specs.Component.{choice}
-use Rattle.apdu_format.specs.Reading.{Outcome, refused, message, readFront}
+use Rattle.apdu_format.specs.Reading.{Outcome, refused, message, readMessage}
 use Rattle.apdu.specs.declared.lists.Lists.{Lists}
 use Rattle.apdu.specs.declared.records.Message.{Message}
 use Rattle.apdu.specs.Values.{valuesOf, emptyRow, emptyEntry}
@@ -51,9 +51,6 @@ noLists = record { entries = replicate 32 emptyEntry; rows = replicate 32 emptyR
 unfoldable pub refusal : ℕ → ℕ → Reading
 refusal k p = record { answer = answer.Refused k p; end = 0; lists = noLists }
 
-unfoldable pub ended : Cursor → Message → Lists → Reading
-ended c m l = pick (eqb (c .fault) 0) (record { answer = answer.Message m; end = c .at; lists = l }) (refusal (c .fault) (c .position))
-
 -- the cursor at the front of a message
 abbrev pub first : Cursor
 first = cursor 0 0 32 0 0 0 0
@@ -63,7 +60,12 @@ pub record Chosen (s : List ℕ) (c : Cursor) : Type 0 where
   pub is : c ≡ component s choice first
   pub clean : c .fault ≡ 0
 
-pub record FrontRead (s : List ℕ) (r : Reading) : Type 0 where
-  pub outcome : outcomeOf s r ≡ readFront s
+-- the cursor behind a message, or 14 where octets are left
+unfoldable pub endedBy : List ℕ → Cursor → Cursor
+endedBy s c = pick (eqb (c .fault) 0) (pick (ltb (c .at) (8 * length s)) (cursor (c .at) (c .begun) (c .room) 14 (c .at / 8) 0 0) c) c
+
+-- what read ensures
+pub record Answered (s : List ℕ) (r : Reading) : Type 0 where
+  pub outcome : outcomeOf s r ≡ readMessage s
   pub tidy : Tidy r
   pub sound : SoundRecord s r

@@ -4,19 +4,17 @@ use Prim.Native.Nat.{ℕ, _+_, _≤_}
 use mathlib.Core.Path.{_≡_}
 use mathlib.Core.List.{List, [], _∷_}
 use mathlib.Core.Bool.{Bool, true, false}
-use lib.ListN.{length, getD, take}
+use lib.ListN.{length, take}
 use Rattle.apdu_format.specs.Component.{entryCount, entry, class}
 use Rattle.apdu_format.specs.Reading.{fields}
 use Rattle.apdu_format.specs.Rules.{when, times}
-use Rattle.apdu.specs.Values.{bitOf, num, num-if, if, entryValues, entriesValues, rowsOf, emptyEntry}
-use Rattle.apdu.specs.Tidy.{Absent, RowsTidy, EntriesTidy, entryTidy}
-use Rattle.apdu.specs.Sound.{partFits, nested, entrySound, entriesSound}
+use Rattle.apdu.specs.Values.{bitOf, num-if, if, entryValues, entryRows}
+use Rattle.apdu.specs.Tidy.{Absent, RowsTidy, entryTidy}
+use Rattle.apdu.specs.Sound.{partFits, nested, entrySound}
 use Rattle.apdu_reading.specs.declared.cursor.Cursor.{Cursor}
 use Rattle.apdu_reading.specs.declared.rows.Rows.{Rows}
 use Rattle.apdu_reading.specs.declared.applications.EntryHead.{EntryHead}
 use Rattle.apdu_reading.specs.declared.applications.EntryRead.{EntryRead}
-use Rattle.apdu_reading.specs.declared.applications.Applications.{Applications}
-use Rattle.apdu_reading.specs.declared.link.AppList.{AppList}
 use Rattle.apdu_reading.specs.declared.link.Configuration.{Configuration}
 use Rattle.apdu_reading.specs.Cursor.{Reads}
 use Rattle.apdu.specs.RowCounters.{row}
@@ -50,26 +48,9 @@ pub record Grown (r q : Rows) : Type 0 where
 pub record EntryWhole (s : List ℕ) (r : Rows) (q : EntryRead) : Type 0 where
   pub reads : Reads s (entry ∷ []) (r .cursor) (q .rows .cursor) (entryValues s (q .entry) (between (r .used) (q .rows .used) (q .rows .rows)))
   pub grown : Grown r (q .rows)
-  pub rows : r .used + q .entry .rows ≡ q .rows .used
+  pub rows : r .used + entryRows (q .entry) ≡ q .rows .used
   pub sound : q .rows .cursor .fault ≡ 0 → entrySound (length s) (q .entry) (between (r .used) (q .rows .used) (q .rows .rows)) ≡ true
   pub tidy : q .rows .cursor .fault ≡ 0 → entryTidy (q .entry)
-
--- entries from place base on
-pub record StoreReady (base : ℕ) (a : Applications) : Type 0 where
-  pub free : Open (a .rows)
-  pub rest : EntriesTidy base (a .entries)
-  pub long : length (a .entries) ≡ 32
-  pub each : a .rows .cursor .fault ≡ 0 → (j : ℕ) → entryTidy (getD (a .entries) j emptyEntry)
-
-pub record Stored (s : List ℕ) (base : ℕ) (a : Applications) (n : ℕ) (r : Applications) : Type 0 where
-  pub reads : Reads s (times n (entry ∷ [])) (a .rows .cursor) (r .rows .cursor)
-      (entriesValues s (between base (base + n) (r .entries)) (between (a .rows .used) (r .rows .used) (r .rows .rows)))
-  pub grown : Grown (a .rows) (r .rows)
-  pub sound : r .rows .cursor .fault ≡ 0
-      → entriesSound (length s) (between base (base + n) (r .entries)) (between (a .rows .used) (r .rows .used) (r .rows .rows)) ≡ true
-  pub ready : StoreReady (base + n) r
-  pub rows : a .rows .used + rowsOf (between base (base + n) (r .entries)) ≡ r .rows .used
-  pub kept : take base (r .entries) ≡ take base (a .entries)
 
 -- the count of an application list, if it is there
 pub record CountMaybe (s : List ℕ) (p : Bool) (c r : Cursor) : Type 0 where
@@ -78,19 +59,6 @@ pub record CountMaybe (s : List ℕ) (p : Bool) (c r : Cursor) : Type 0 where
   pub small : r .value ≤ 16
   pub clean : r .fault ≡ 0 → c .fault ≡ 0
   pub absent : p ≡ false → r .value ≡ 0
-
--- an application list, if it is there, stored behind those of a
-pub record ListMaybe (s : List ℕ) (p : Bool) (base : ℕ) (a : Applications) (r : AppList) : Type 0 where
-  pub reads : Reads s (when p (entryCount ∷ [])) (a .rows .cursor) (r .list .rows .cursor)
-      (if p (num (r .count) ∷ entriesValues s (between base (base + r .count) (r .list .entries)) (between (a .rows .used) (r .list .rows .used) (r .list .rows .rows))))
-  pub grown : Grown (a .rows) (r .list .rows)
-  pub sound : r .list .rows .cursor .fault ≡ 0
-      → entriesSound (length s) (between base (base + r .count) (r .list .entries)) (between (a .rows .used) (r .list .rows .used) (r .list .rows .rows)) ≡ true
-  pub ready : StoreReady (base + r .count) (r .list)
-  pub rows : a .rows .used + rowsOf (between base (base + r .count) (r .list .entries)) ≡ r .list .rows .used
-  pub kept : take base (r .list .entries) ≡ take base (a .entries)
-  pub small : r .count ≤ 16
-  pub absent : p ≡ false → r .count ≡ 0
 
 -- the configuration of a VST
 pub record ConfigurationRead (s : List ℕ) (c : Cursor) (r : Configuration) : Type 0 where

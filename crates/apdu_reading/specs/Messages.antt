@@ -4,62 +4,125 @@ use Prim.Native.Nat.{ℕ, _+_}
 use mathlib.Core.Path.{_≡_}
 use mathlib.Core.List.{List, [], _∷_}
 use mathlib.Core.Bool.{true}
-use lib.ListN.{length}
-use Rattle.apdu_format.specs.Component.{lead}
-use Rattle.apdu.specs.Values.{requestValues, actionResponseValues, responseValues, setRequestValues, getRequestValues, getResponseValues, bstValues, vstValues}
-use Rattle.apdu.specs.Tidy.{RowsTidy, ListsTidy, bstTidy, vstTidy, requestTidy, actionResponseTidy, responseTidy, setRequestTidy, getRequestTidy, getResponseTidy}
-use Rattle.apdu.specs.Sound.{requestSound, actionResponseSound, setRequestSound, getRequestSound, getResponseSound, bstSound, vstSound}
+use lib.ListN.{length, replicate}
+use Rattle.apdu_format.specs.Component.{choice, integer}
+use Rattle.apdu.specs.declared.lists.Lists.{Lists}
+use Rattle.apdu.specs.declared.due.Due.{Due}
+use Rattle.apdu.specs.declared.records.Request.{Request}
+use Rattle.apdu.specs.declared.records.ActionResponse.{ActionResponse}
+use Rattle.apdu.specs.declared.records.SetRequest.{SetRequest}
+use Rattle.apdu.specs.declared.records.GetResponse.{GetResponse}
+use Rattle.apdu.specs.declared.records.Message.{Message}
+use Rattle.apdu.specs.declared.records.Message.the-variants as kind
+use Rattle.apdu.specs.Values.{num-if, valuesOf, emptyRow, emptyEntry}
+use Rattle.apdu.specs.Tidy.{messageTidy}
+use Rattle.apdu.specs.Sound.{sound}
 use Rattle.apdu_reading.specs.declared.cursor.Cursor.{Cursor}
-use Rattle.apdu_reading.specs.declared.services.RequestOf.{RequestOf}
-use Rattle.apdu_reading.specs.declared.services.ActionResponseOf.{ActionResponseOf}
-use Rattle.apdu_reading.specs.declared.services.ResponseOf.{ResponseOf}
-use Rattle.apdu_reading.specs.declared.services.SetRequestOf.{SetRequestOf}
-use Rattle.apdu_reading.specs.declared.services.GetRequestOf.{GetRequestOf}
-use Rattle.apdu_reading.specs.declared.services.GetResponseOf.{GetResponseOf}
-use Rattle.apdu_reading.specs.declared.link.BstOf.{BstOf}
-use Rattle.apdu_reading.specs.declared.link.VstOf.{VstOf}
+use Rattle.apdu_reading.specs.declared.rows.Rows.{Rows}
+use Rattle.apdu_reading.specs.declared.services.Opened.{Opened}
 use Rattle.apdu_reading.specs.Cursor.{Reads}
+use Rattle.apdu_reading.specs.Lists.{Filled}
+use Rattle.apdu_reading.specs.Optional.{Maybe}
+use Rattle.apdu_reading.specs.Answers.{first}
 
 -- the cursor behind a message's choice
 pub record Begun (c : Cursor) : Type 0 where
   pub at : c .at ≡ 4
   pub room : c .room ≡ 32
 
-pub record RequestRead (s : List ℕ) (c : Cursor) (r : RequestOf) : Type 0 where
-  pub reads : Reads s (lead 0 ∷ []) c (r .cursor) (requestValues s (r .message) (r .rows .rows))
-  pub sound : r .cursor .fault ≡ 0 → requestSound (length s) (r .message) (r .rows .rows) ≡ true
-  pub tidy : r .cursor .fault ≡ 0 → requestTidy (r .message) × RowsTidy (r .message .rows) (r .rows .rows)
+-- a whole message is read, up to r
+pub record MessageRead (s : List ℕ) (r : Cursor) (m : Message) (l : Lists) : Type 0 where
+  pub reads : Reads s (choice ∷ []) first r (valuesOf s m (l .entries) (l .rows))
+  pub tidy : r .fault ≡ 0 → messageTidy m (l .entries) (l .rows)
+  pub sound : r .fault ≡ 0 → sound (length s) m (l .entries) (l .rows) ≡ true
 
-pub record ActionResponseRead (s : List ℕ) (c : Cursor) (r : ActionResponseOf) : Type 0 where
-  pub reads : Reads s (lead 1 ∷ []) c (r .cursor) (actionResponseValues s (r .message) (r .rows .rows))
-  pub sound : r .cursor .fault ≡ 0 → actionResponseSound (length s) (r .message) (r .rows .rows) ≡ true
-  pub tidy : r .cursor .fault ≡ 0 → actionResponseTidy (r .message) × RowsTidy (r .message .rows) (r .rows .rows)
+-- ---- services: a message up to its rows, and the message once they and the number behind them are read
 
-pub record ResponseRead (s : List ℕ) (c : Cursor) (r : ResponseOf) : Type 0 where
-  pub reads : Reads s (lead 3 ∷ []) c (r .cursor) (responseValues (r .message))
-  pub tidy : r .cursor .fault ≡ 0 → responseTidy (r .message)
+abbrev pub requestClosed : Request → ℕ → ℕ → Request
+requestClosed m rows iid =
+    record {
+      mode = m .mode;
+      eid = m .eid;
+      service = m .service;
+      «has_credentials» = m .«has_credentials»;
+      credentials = m .credentials;
+      «credentials_length» = m .«credentials_length»;
+      «has_parameter» = m .«has_parameter»;
+      kind = m .kind;
+      n = m .n;
+      start = m .start;
+      rows = rows;
+      «has_iid» = m .«has_iid»;
+      iid = iid;
+    }
 
-pub record SetRequestRead (s : List ℕ) (c : Cursor) (r : SetRequestOf) : Type 0 where
-  pub reads : Reads s (lead 4 ∷ []) c (r .cursor) (setRequestValues s (r .message) (r .rows .rows))
-  pub sound : r .cursor .fault ≡ 0 → setRequestSound (length s) (r .message) (r .rows .rows) ≡ true
-  pub tidy : r .cursor .fault ≡ 0 → setRequestTidy (r .message) × RowsTidy (r .message .rows) (r .rows .rows)
+abbrev pub actionResponseClosed : ActionResponse → ℕ → ℕ → ActionResponse
+actionResponseClosed m rows ret =
+    record {
+      fill = m .fill;
+      eid = m .eid;
+      «has_iid» = m .«has_iid»;
+      iid = m .iid;
+      «has_parameter» = m .«has_parameter»;
+      kind = m .kind;
+      n = m .n;
+      start = m .start;
+      rows = rows;
+      «has_ret» = m .«has_ret»;
+      ret = ret;
+    }
 
-pub record GetRequestRead (s : List ℕ) (c : Cursor) (r : GetRequestOf) : Type 0 where
-  pub reads : Reads s (lead 6 ∷ []) c (r .cursor) (getRequestValues s (r .message))
-  pub sound : r .cursor .fault ≡ 0 → getRequestSound (length s) (r .message) ≡ true
-  pub tidy : r .cursor .fault ≡ 0 → getRequestTidy (r .message)
+abbrev pub setRequestClosed : SetRequest → ℕ → ℕ → SetRequest
+setRequestClosed m rows iid =
+    record {
+      fill = m .fill;
+      mode = m .mode;
+      eid = m .eid;
+      «has_credentials» = m .«has_credentials»;
+      credentials = m .credentials;
+      «credentials_length» = m .«credentials_length»;
+      count = m .count;
+      rows = rows;
+      «has_iid» = m .«has_iid»;
+      iid = iid;
+    }
 
-pub record GetResponseRead (s : List ℕ) (c : Cursor) (r : GetResponseOf) : Type 0 where
-  pub reads : Reads s (lead 7 ∷ []) c (r .cursor) (getResponseValues s (r .message) (r .rows .rows))
-  pub sound : r .cursor .fault ≡ 0 → getResponseSound (length s) (r .message) (r .rows .rows) ≡ true
-  pub tidy : r .cursor .fault ≡ 0 → getResponseTidy (r .message) × RowsTidy (r .message .rows) (r .rows .rows)
+abbrev pub getResponseClosed : GetResponse → ℕ → ℕ → GetResponse
+getResponseClosed m rows ret =
+    record {
+      fill = m .fill;
+      eid = m .eid;
+      «has_iid» = m .«has_iid»;
+      iid = m .iid;
+      «has_attributes» = m .«has_attributes»;
+      count = m .count;
+      rows = rows;
+      «has_ret» = m .«has_ret»;
+      ret = ret;
+    }
 
-pub record BstRead (s : List ℕ) (c : Cursor) (r : BstOf) : Type 0 where
-  pub reads : Reads s (lead 8 ∷ []) c (r .cursor) (bstValues s (r .message) (r .list .entries) (r .list .rows .rows))
-  pub sound : r .cursor .fault ≡ 0 → bstSound (length s) (r .message) (r .list .entries) (r .list .rows .rows) ≡ true
-  pub tidy : r .cursor .fault ≡ 0 → bstTidy (r .message) × ListsTidy (r .message .mandatory + r .message .others) (r .list .entries) (r .list .rows .rows)
+unfoldable pub closedBy : Message → ℕ → ℕ → Message
+closedBy (kind.ActionRequest m) rows last = kind.ActionRequest (requestClosed m rows last)
+closedBy (kind.ActionResponse m) rows last = kind.ActionResponse (actionResponseClosed m rows last)
+closedBy (kind.EventRequest m) rows last = kind.EventRequest (requestClosed m rows last)
+closedBy (kind.EventResponse m) rows last = kind.EventResponse m
+closedBy (kind.SetRequest m) rows last = kind.SetRequest (setRequestClosed m rows last)
+closedBy (kind.SetResponse m) rows last = kind.SetResponse m
+closedBy (kind.GetRequest m) rows last = kind.GetRequest m
+closedBy (kind.GetResponse m) rows last = kind.GetResponse (getResponseClosed m rows last)
+closedBy (kind.Bst m) rows last = kind.Bst m
+closedBy (kind.Vst m) rows last = kind.Vst m
 
-pub record VstRead (s : List ℕ) (c : Cursor) (r : VstOf) : Type 0 where
-  pub reads : Reads s (lead 9 ∷ []) c (r .cursor) (vstValues s (r .message) (r .list .entries) (r .list .rows .rows))
-  pub sound : r .cursor .fault ≡ 0 → vstSound (length s) (r .message) (r .list .entries) (r .list .rows .rows) ≡ true
-  pub tidy : r .cursor .fault ≡ 0 → vstTidy (r .message) × ListsTidy (r .message .applications) (r .list .entries) (r .list .rows .rows)
+-- the rows that are due
+abbrev pub dueOf : Opened → Due
+dueOf o = record { d1 = o .d1; d2 = o .d2; d3 = 0; d4 = 0; d5 = 0 }
+
+-- rows of which none is read
+abbrev pub unread : Cursor → Rows
+unread c = record { cursor = c; used = 0; rows = replicate 32 emptyRow }
+
+-- whatever the rows and the number behind them are, with them the message is read
+pub record Opens (s : List ℕ) (o : Opened) : Type 0 where
+  pub room : o .cursor .fault ≡ 0 → o .d1 + o .d2 + o .cursor .room ≡ 32
+  pub whole : (q : Rows) (r : Cursor) → Filled s (dueOf o) (unread (o .cursor)) q → Maybe s (o .last) (integer ∷ []) (q .cursor) r (num-if (o .last) (r .value))
+      → MessageRead s r (closedBy (o .message) (q .used) (r .value)) (record { entries = replicate 32 emptyEntry; rows = q .rows })

@@ -2,9 +2,9 @@
 ghost use mathlib.Core.Path.{_≡_};
 ghost use mathlib.Core.List.{[], _∷_};
 ghost use mathlib.Core.Bool.{true, false};
-ghost use Prim.Native.Nat.{_+_, _≤_};
+ghost use Prim.Native.Nat.{_≤_};
 ghost use lib.ListN.{length};
-ghost use Rattle.apdu_reading.specs.Applications.{EntryOpens, Open, EntryWhole, Stored, StoreReady, CountMaybe};
+ghost use Rattle.apdu_reading.specs.Applications.{EntryOpens, Open, EntryWhole, CountMaybe};
 use crate::component::count;
 use crate::component::entry_octet;
 use crate::cursor::Cursor;
@@ -55,7 +55,7 @@ pub struct EntryRead {
 
 // An entry with the rows that it announces, stored behind those that are read.
 pub(crate) fn with_rows(s: &[u8], h: EntryHead, r: Rows) -> EntryRead
-    requires { ⌜ (length (now s) ≤ 512) × Open r × EntryOpens (now s) (r .cursor) h ⌝ }
+    requires { ⌜ (length (now s) ≤ 512) × Open r × EntryOpens (now s) (r .cursor) h × (1 ≤ h .due) ⌝ }
     ensures { λ q. ⌜ EntryWhole (now (s .entry)) r q ⌝ }
 {
     let before = r.used;
@@ -88,47 +88,6 @@ pub(crate) fn with_rows(s: &[u8], h: EntryHead, r: Rows) -> EntryRead
         rows: (rows.used - before) as u8,
     };
     EntryRead { entry, rows }
-}
-
-// The entries and rows read so far.
-pub struct Applications {
-    pub rows: Rows,
-    pub entries: [Entry; 32],
-}
-
-// `n` entries, stored from place `base` on.
-pub(crate) fn entries(s: &[u8], base: u64, n: u64, a: Applications) -> Applications
-    requires { ⌜ (length (now s) ≤ 512) × (base + n ≤ 32) × StoreReady base a ⌝ }
-    ensures { λ r. ⌜ Stored (now (s .entry)) base a n r ⌝ }
-{
-    let held = a.rows;
-    let mut cursor = held.cursor;
-    let mut used = held.used;
-    let mut rows = held.rows;
-    let mut list = a.entries;
-    let mut i: u64 = 0;
-    while i < n {
-        let h = entry_head(s, cursor);
-        let place = (base + i) as usize;
-        i += 1;
-        if h.due == 0 {
-            let entry = h.entry;
-            cursor = h.cursor;
-            list[place] = entry;
-        } else {
-            let t = with_rows(s, h, Rows { cursor, used, rows });
-            let entry = t.entry;
-            let more = t.rows;
-            cursor = more.cursor;
-            used = more.used;
-            rows = more.rows;
-            list[place] = entry;
-        }
-    }
-    Applications {
-        rows: Rows { cursor, used, rows },
-        entries: list,
-    }
 }
 
 // The count of an application list, which is the value afterwards.

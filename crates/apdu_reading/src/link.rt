@@ -1,68 +1,32 @@
-// The messages of the I-Kernel, behind their choice: BST and VST.
+// The messages of the I-Kernel, behind their choice: BST and VST. Each holds its entries and their rows while it reads them; all else hands over small structs.
 ghost use mathlib.Core.Path.{_≡_};
 ghost use Prim.Native.Nat.{_≤_};
 ghost use lib.ListN.{length};
-ghost use Rattle.apdu_reading.specs.Applications.{StoreReady, ListMaybe, ConfigurationRead};
-ghost use Rattle.apdu_reading.specs.Messages.{Begun, BstRead, VstRead};
-use crate::applications::Applications;
+ghost use Rattle.apdu_reading.specs.Applications.{ConfigurationRead};
+ghost use Rattle.apdu_reading.specs.Answers.{Chosen, Answered};
 use crate::applications::count_if;
-use crate::applications::entries;
+use crate::applications::entry_head;
+use crate::applications::with_rows;
 use crate::component::id_list;
 use crate::component::integer;
 use crate::cursor::Cursor;
-use crate::cursor::marked;
 use crate::cursor::piece;
+use crate::front::Answer;
+use crate::front::Reading;
+use crate::front::ended;
+use crate::front::refused;
 use crate::rows::Rows;
 use crate::services::flag;
 use apdu::Bst;
+use apdu::Lists;
+use apdu::Message;
 use apdu::Vst;
 use apdu::no_entries;
 use apdu::no_rows;
 
-// An application list: its count, and the entries and rows with its own behind them.
-pub struct AppList {
-    pub count: u64,
-    pub list: Applications,
-}
-
-// An application list, if it is there, its entries stored from place `base` on.
-pub(crate) fn applications(s: &[u8], p: bool, base: u64, a: Applications) -> AppList
-    requires { ⌜ (length (now s) ≤ 512) × (base ≤ 16) × StoreReady base a ⌝ }
-    ensures { λ r. ⌜ ListMaybe (now (s .entry)) p base a r ⌝ }
-{
-    let before = a.rows;
-    let at = before.cursor;
-    let cursor = count_if(s, p, at);
-    let rows = before.rows;
-    let held = a.entries;
-    let list = entries(
-        s,
-        base,
-        cursor.value,
-        Applications {
-            rows: Rows {
-                cursor,
-                used: before.used,
-                rows,
-            },
-            entries: held,
-        },
-    );
-    AppList {
-        count: cursor.value,
-        list,
-    }
-}
-
-pub struct BstOf {
-    pub cursor: Cursor,
-    pub message: Bst,
-    pub list: Applications,
-}
-
-pub(crate) fn bst(s: &[u8], c: Cursor) -> BstOf
-    requires { ⌜ (length (now s) ≤ 512) × Begun c ⌝ }
-    ensures { λ r. ⌜ BstRead (now (s .entry)) c r ⌝ }
+pub(crate) fn bst(s: &[u8], c: Cursor) -> Reading
+    requires { ⌜ (length (now s) ≤ 512) × Chosen (now s) c × (c .value ≡ 8) ⌝ }
+    ensures { λ r. ⌜ Answered (now (s .entry)) r ⌝ }
 {
     let lead = piece(s, 44, false, c);
     let has_others = flag(s, 4);
@@ -70,42 +34,73 @@ pub(crate) fn bst(s: &[u8], c: Cursor) -> BstOf
     let individual = bits::read_field(s, 21, 27);
     let time = piece(s, 32, true, lead);
     let profile = integer(s, time);
-    let rows = no_rows();
-    let none = no_entries();
-    let first = applications(
-        s,
-        true,
-        0,
-        Applications {
-            rows: Rows {
-                cursor: profile,
-                used: 0,
-                rows,
-            },
-            entries: none,
-        },
-    );
-    let stored = first.list;
-    let second = applications(s, has_others, first.count, stored);
-    let list = second.list;
-    let used = list.rows;
-    let behind = used.cursor;
-    let profiles = id_list(s, behind);
+    let first = count_if(s, true, profile);
+    let mandatory = first.value;
+    let mut cursor = first;
+    let mut used: u64 = 0;
+    let mut rows = no_rows();
+    let mut entries = no_entries();
+    let mut i: u64 = 0;
+    while i < mandatory {
+        let h = entry_head(s, cursor);
+        let place = i as usize;
+        i += 1;
+        if h.due == 0 {
+            let entry = h.entry;
+            cursor = h.cursor;
+            entries[place] = entry;
+        } else {
+            let t = with_rows(s, h, Rows { cursor, used, rows });
+            let entry = t.entry;
+            let more = t.rows;
+            cursor = more.cursor;
+            used = more.used;
+            rows = more.rows;
+            entries[place] = entry;
+        }
+    }
+    let second = count_if(s, has_others, cursor);
+    let others = second.value;
+    cursor = second;
+    let mut j: u64 = 0;
+    while j < others {
+        let h = entry_head(s, cursor);
+        let place = (mandatory + j) as usize;
+        j += 1;
+        if h.due == 0 {
+            let entry = h.entry;
+            cursor = h.cursor;
+            entries[place] = entry;
+        } else {
+            let t = with_rows(s, h, Rows { cursor, used, rows });
+            let entry = t.entry;
+            let more = t.rows;
+            cursor = more.cursor;
+            used = more.used;
+            rows = more.rows;
+            entries[place] = entry;
+        }
+    }
+    let profiles = id_list(s, cursor);
     let message = Bst {
         manufacturer,
         individual,
         time: time.value,
         profile: profile.value,
-        mandatory: first.count,
+        mandatory,
         has_others,
-        others: second.count,
+        others,
         profiles: profiles.start,
         profile_count: profiles.value,
     };
-    BstOf {
-        cursor: profiles,
-        message,
-        list,
+    let end = ended(s, profiles);
+    if end.fault != 0 {
+        return refused(end.fault, end.position);
+    }
+    Reading {
+        answer: Answer::Message(Message::Bst(message)),
+        end: end.at,
+        lists: Lists { entries, rows },
     }
 }
 
@@ -144,51 +139,67 @@ pub(crate) fn configured(s: &[u8], c: Cursor) -> Configuration
     }
 }
 
-pub struct VstOf {
-    pub cursor: Cursor,
-    pub message: Vst,
-    pub list: Applications,
-}
-
-pub(crate) fn vst(s: &[u8], c: Cursor) -> VstOf
-    requires { ⌜ (length (now s) ≤ 512) × Begun c ⌝ }
-    ensures { λ r. ⌜ VstRead (now (s .entry)) c r ⌝ }
+pub(crate) fn vst(s: &[u8], c: Cursor) -> Reading
+    requires { ⌜ (length (now s) ≤ 512) × Chosen (now s) c × (c .value ≡ 9) ⌝ }
+    ensures { λ r. ⌜ Answered (now (s .entry)) r ⌝ }
 {
     let lead = piece(s, 4, false, c);
     let fill = bits::read_field(s, 4, 4);
     let profile = integer(s, lead);
-    let rows = no_rows();
-    let none = no_entries();
-    let first = applications(
-        s,
-        true,
-        0,
-        Applications {
-            rows: Rows {
-                cursor: profile,
-                used: 0,
-                rows,
-            },
-            entries: none,
-        },
-    );
-    let list = first.list;
-    let used = list.rows;
-    let behind = used.cursor;
-    let held = configured(s, behind);
+    let first = count_if(s, true, profile);
+    let applications = first.value;
+    let mut cursor = first;
+    let mut used: u64 = 0;
+    let mut rows = no_rows();
+    let mut entries = no_entries();
+    let mut i: u64 = 0;
+    while i < applications {
+        let h = entry_head(s, cursor);
+        let place = i as usize;
+        i += 1;
+        if h.due == 0 {
+            let entry = h.entry;
+            cursor = h.cursor;
+            entries[place] = entry;
+        } else {
+            let t = with_rows(s, h, Rows { cursor, used, rows });
+            let entry = t.entry;
+            let more = t.rows;
+            cursor = more.cursor;
+            used = more.used;
+            rows = more.rows;
+            entries[place] = entry;
+        }
+    }
+    let held = configured(s, cursor);
+    let behind = held.cursor;
     let message = Vst {
         fill,
         profile: profile.value,
-        applications: first.count,
+        applications,
         class: held.class,
         maker: held.maker,
         has_status: held.has_status,
         status: held.status,
     };
-    let cursor = held.cursor;
-    VstOf {
-        cursor,
-        message,
-        list,
+    let end = ended(s, behind);
+    if end.fault != 0 {
+        return refused(end.fault, end.position);
     }
+    Reading {
+        answer: Answer::Message(Message::Vst(message)),
+        end: end.at,
+        lists: Lists { entries, rows },
+    }
+}
+
+// Choices 8 and 9.
+pub(crate) fn link(s: &[u8], c: Cursor) -> Reading
+    requires { ⌜ (length (now s) ≤ 512) × Chosen (now s) c × (8 ≤ c .value) ⌝ }
+    ensures { λ r. ⌜ Answered (now (s .entry)) r ⌝ }
+{
+    if c.value == 8 {
+        return bst(s, c);
+    }
+    vst(s, c)
 }

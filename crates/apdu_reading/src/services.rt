@@ -1,26 +1,27 @@
-// The messages of the T-Kernel's services, behind their choice: the leading bits, then the components in Annex A's order.
+// The messages of the T-Kernel's services, behind their choice and up to their rows: the leading bits, then the components in Annex A's order.
 ghost use mathlib.Core.Path.{_≡_};
-ghost use mathlib.Core.List.{[], _∷_};
-ghost use Prim.Native.Nat.{_≤_};
+ghost use Prim.Native.Nat.{_%_, _<_, _≤_};
 ghost use lib.ListN.{length};
 ghost use Rattle.bits.specs.Bits.{field};
 ghost use Rattle.apdu.specs.Values.{bitOf};
-ghost use Rattle.apdu_reading.specs.Messages.{Begun, RequestRead, ActionResponseRead, ResponseRead, SetRequestRead, GetRequestRead, GetResponseRead};
+ghost use Rattle.apdu_reading.specs.Answers.{Chosen};
+ghost use Rattle.apdu_reading.specs.Messages.{Opens};
 use crate::component::integer;
 use crate::cursor::Cursor;
 use crate::cursor::piece;
-use crate::lists::attribute_list;
-use crate::lists::parameter;
+use crate::optional::attributes_if;
+use crate::optional::container_if;
 use crate::optional::id_list_if;
 use crate::optional::integer_if;
 use crate::optional::string_if;
-use crate::rows::Rows;
 use apdu::ActionResponse;
 use apdu::GetRequest;
 use apdu::GetResponse;
+use apdu::Message;
 use apdu::Request;
 use apdu::Response;
 use apdu::SetRequest;
+use apdu::announces;
 
 // The bit at a place.
 pub(crate) fn flag(s: &[u8], at: usize) -> bool
@@ -29,16 +30,19 @@ pub(crate) fn flag(s: &[u8], at: usize) -> bool
     bits::read_field(s, at, 1) == 1
 }
 
-pub struct RequestOf {
+// A message up to its rows: how many are due at depth 1 and 2, whether a number follows them, and the message with its rows and that number 0.
+pub struct Opened {
     pub cursor: Cursor,
-    pub message: Request,
-    pub rows: Rows,
+    pub d1: u64,
+    pub d2: u64,
+    pub last: bool,
+    pub message: Message,
 }
 
 // An action or event request.
-pub(crate) fn request(s: &[u8], c: Cursor) -> RequestOf
-    requires { ⌜ (length (now s) ≤ 512) × Begun c ⌝ }
-    ensures { λ r. ⌜ RequestRead (now (s .entry)) c r ⌝ }
+pub(crate) fn request(s: &[u8], c: Cursor) -> Opened
+    requires { ⌜ (length (now s) ≤ 512) × Chosen (now s) c × (c .value % 2 ≡ 0) × (c .value ≤ 2) ⌝ }
+    ensures { λ r. ⌜ Opens (now (s .entry)) r ⌝ }
 {
     let lead = piece(s, 4, false, c);
     let has_credentials = flag(s, 4);
@@ -48,10 +52,9 @@ pub(crate) fn request(s: &[u8], c: Cursor) -> RequestOf
     let eid = integer(s, lead);
     let service = integer(s, eid);
     let credentials = string_if(s, has_credentials, service);
-    let held = parameter(s, has_parameter, credentials);
-    let rows = held.rows;
-    let behind = rows.cursor;
-    let iid = integer_if(s, has_iid, behind);
+    let h = container_if(s, has_parameter, credentials);
+    let d2 = announces(h.kind, h.n);
+    let cursor = h.cursor;
     let message = Request {
         mode,
         eid: eid.value,
@@ -60,29 +63,34 @@ pub(crate) fn request(s: &[u8], c: Cursor) -> RequestOf
         credentials: credentials.start,
         credentials_length: credentials.value,
         has_parameter,
-        kind: held.kind,
-        n: held.n,
-        start: held.start,
-        rows: rows.used as usize,
+        kind: h.kind,
+        n: h.n,
+        start: h.start,
+        rows: 0,
         has_iid,
-        iid: iid.value,
+        iid: 0,
     };
-    RequestOf {
-        cursor: iid,
-        message,
-        rows,
+    if c.value == 2 {
+        return Opened {
+            cursor,
+            d1: 0,
+            d2,
+            last: has_iid,
+            message: Message::EventRequest(message),
+        };
+    }
+    Opened {
+        cursor,
+        d1: 0,
+        d2,
+        last: has_iid,
+        message: Message::ActionRequest(message),
     }
 }
 
-pub struct ActionResponseOf {
-    pub cursor: Cursor,
-    pub message: ActionResponse,
-    pub rows: Rows,
-}
-
-pub(crate) fn action_response(s: &[u8], c: Cursor) -> ActionResponseOf
-    requires { ⌜ (length (now s) ≤ 512) × Begun c ⌝ }
-    ensures { λ r. ⌜ ActionResponseRead (now (s .entry)) c r ⌝ }
+pub(crate) fn action_response(s: &[u8], c: Cursor) -> Opened
+    requires { ⌜ (length (now s) ≤ 512) × Chosen (now s) c × (c .value ≡ 1) ⌝ }
+    ensures { λ r. ⌜ Opens (now (s .entry)) r ⌝ }
 {
     let lead = piece(s, 4, false, c);
     let has_iid = flag(s, 4);
@@ -91,39 +99,35 @@ pub(crate) fn action_response(s: &[u8], c: Cursor) -> ActionResponseOf
     let fill = bits::read_field(s, 7, 1);
     let eid = integer(s, lead);
     let iid = integer_if(s, has_iid, eid);
-    let held = parameter(s, has_parameter, iid);
-    let rows = held.rows;
-    let behind = rows.cursor;
-    let ret = integer_if(s, has_ret, behind);
+    let h = container_if(s, has_parameter, iid);
+    let d2 = announces(h.kind, h.n);
+    let cursor = h.cursor;
     let message = ActionResponse {
         fill,
         eid: eid.value,
         has_iid,
         iid: iid.value,
         has_parameter,
-        kind: held.kind,
-        n: held.n,
-        start: held.start,
-        rows: rows.used as usize,
+        kind: h.kind,
+        n: h.n,
+        start: h.start,
+        rows: 0,
         has_ret,
-        ret: ret.value,
+        ret: 0,
     };
-    ActionResponseOf {
-        cursor: ret,
-        message,
-        rows,
+    Opened {
+        cursor,
+        d1: 0,
+        d2,
+        last: has_ret,
+        message: Message::ActionResponse(message),
     }
 }
 
-pub struct ResponseOf {
-    pub cursor: Cursor,
-    pub message: Response,
-}
-
 // An event or set response.
-pub(crate) fn response(s: &[u8], c: Cursor) -> ResponseOf
-    requires { ⌜ (length (now s) ≤ 512) × Begun c ⌝ }
-    ensures { λ r. ⌜ ResponseRead (now (s .entry)) c r ⌝ }
+pub(crate) fn response(s: &[u8], c: Cursor) -> Opened
+    requires { ⌜ (length (now s) ≤ 512) × Chosen (now s) c × (c .value % 2 ≡ 1) × (3 ≤ c .value) × (c .value ≤ 5) ⌝ }
+    ensures { λ r. ⌜ Opens (now (s .entry)) r ⌝ }
 {
     let lead = piece(s, 4, false, c);
     let has_iid = flag(s, 4);
@@ -140,21 +144,27 @@ pub(crate) fn response(s: &[u8], c: Cursor) -> ResponseOf
         has_ret,
         ret: ret.value,
     };
-    ResponseOf {
+    if c.value == 5 {
+        return Opened {
+            cursor: ret,
+            d1: 0,
+            d2: 0,
+            last: false,
+            message: Message::SetResponse(message),
+        };
+    }
+    Opened {
         cursor: ret,
-        message,
+        d1: 0,
+        d2: 0,
+        last: false,
+        message: Message::EventResponse(message),
     }
 }
 
-pub struct SetRequestOf {
-    pub cursor: Cursor,
-    pub message: SetRequest,
-    pub rows: Rows,
-}
-
-pub(crate) fn set_request(s: &[u8], c: Cursor) -> SetRequestOf
-    requires { ⌜ (length (now s) ≤ 512) × Begun c ⌝ }
-    ensures { λ r. ⌜ SetRequestRead (now (s .entry)) c r ⌝ }
+pub(crate) fn set_request(s: &[u8], c: Cursor) -> Opened
+    requires { ⌜ (length (now s) ≤ 512) × Chosen (now s) c × (c .value ≡ 4) ⌝ }
+    ensures { λ r. ⌜ Opens (now (s .entry)) r ⌝ }
 {
     let lead = piece(s, 4, false, c);
     let has_credentials = flag(s, 4);
@@ -163,10 +173,7 @@ pub(crate) fn set_request(s: &[u8], c: Cursor) -> SetRequestOf
     let mode = flag(s, 7);
     let eid = integer(s, lead);
     let credentials = string_if(s, has_credentials, eid);
-    let held = attribute_list(s, true, credentials);
-    let rows = held.rows;
-    let behind = rows.cursor;
-    let iid = integer_if(s, has_iid, behind);
+    let cursor = attributes_if(s, true, credentials);
     let message = SetRequest {
         fill,
         mode,
@@ -174,26 +181,23 @@ pub(crate) fn set_request(s: &[u8], c: Cursor) -> SetRequestOf
         has_credentials,
         credentials: credentials.start,
         credentials_length: credentials.value,
-        count: held.count,
-        rows: rows.used as usize,
+        count: cursor.value,
+        rows: 0,
         has_iid,
-        iid: iid.value,
+        iid: 0,
     };
-    SetRequestOf {
-        cursor: iid,
-        message,
-        rows,
+    Opened {
+        cursor,
+        d1: cursor.value,
+        d2: 0,
+        last: has_iid,
+        message: Message::SetRequest(message),
     }
 }
 
-pub struct GetRequestOf {
-    pub cursor: Cursor,
-    pub message: GetRequest,
-}
-
-pub(crate) fn get_request(s: &[u8], c: Cursor) -> GetRequestOf
-    requires { ⌜ (length (now s) ≤ 512) × Begun c ⌝ }
-    ensures { λ r. ⌜ GetRequestRead (now (s .entry)) c r ⌝ }
+pub(crate) fn get_request(s: &[u8], c: Cursor) -> Opened
+    requires { ⌜ (length (now s) ≤ 512) × Chosen (now s) c × (c .value ≡ 6) ⌝ }
+    ensures { λ r. ⌜ Opens (now (s .entry)) r ⌝ }
 {
     let lead = piece(s, 4, false, c);
     let has_credentials = flag(s, 4);
@@ -216,21 +220,18 @@ pub(crate) fn get_request(s: &[u8], c: Cursor) -> GetRequestOf
         ids: ids.start,
         count: ids.value,
     };
-    GetRequestOf {
+    Opened {
         cursor: ids,
-        message,
+        d1: 0,
+        d2: 0,
+        last: false,
+        message: Message::GetRequest(message),
     }
 }
 
-pub struct GetResponseOf {
-    pub cursor: Cursor,
-    pub message: GetResponse,
-    pub rows: Rows,
-}
-
-pub(crate) fn get_response(s: &[u8], c: Cursor) -> GetResponseOf
-    requires { ⌜ (length (now s) ≤ 512) × Begun c ⌝ }
-    ensures { λ r. ⌜ GetResponseRead (now (s .entry)) c r ⌝ }
+pub(crate) fn get_response(s: &[u8], c: Cursor) -> Opened
+    requires { ⌜ (length (now s) ≤ 512) × Chosen (now s) c × (c .value ≡ 7) ⌝ }
+    ensures { λ r. ⌜ Opens (now (s .entry)) r ⌝ }
 {
     let lead = piece(s, 4, false, c);
     let has_iid = flag(s, 4);
@@ -239,24 +240,46 @@ pub(crate) fn get_response(s: &[u8], c: Cursor) -> GetResponseOf
     let fill = bits::read_field(s, 7, 1);
     let eid = integer(s, lead);
     let iid = integer_if(s, has_iid, eid);
-    let held = attribute_list(s, has_attributes, iid);
-    let rows = held.rows;
-    let behind = rows.cursor;
-    let ret = integer_if(s, has_ret, behind);
+    let cursor = attributes_if(s, has_attributes, iid);
     let message = GetResponse {
         fill,
         eid: eid.value,
         has_iid,
         iid: iid.value,
         has_attributes,
-        count: held.count,
-        rows: rows.used as usize,
+        count: cursor.value,
+        rows: 0,
         has_ret,
-        ret: ret.value,
+        ret: 0,
     };
-    GetResponseOf {
-        cursor: ret,
-        message,
-        rows,
+    Opened {
+        cursor,
+        d1: cursor.value,
+        d2: 0,
+        last: has_ret,
+        message: Message::GetResponse(message),
     }
+}
+
+// A service's message up to its rows.
+pub(crate) fn opening(s: &[u8], c: Cursor) -> Opened
+    requires { ⌜ (length (now s) ≤ 512) × Chosen (now s) c × (c .value < 8) ⌝ }
+    ensures { λ r. ⌜ Opens (now (s .entry)) r ⌝ }
+{
+    if c.value == 1 {
+        return action_response(s, c);
+    }
+    if c.value == 4 {
+        return set_request(s, c);
+    }
+    if c.value == 6 {
+        return get_request(s, c);
+    }
+    if c.value == 7 {
+        return get_response(s, c);
+    }
+    if c.value % 2 == 0 {
+        return request(s, c);
+    }
+    response(s, c)
 }

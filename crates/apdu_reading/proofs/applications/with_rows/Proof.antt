@@ -15,7 +15,7 @@ cast-t13 : tie.Need-cast-t13
 cast-t13 c = omega (arith, c .before .before .fill .ensures .few)
 
 returns : tie.Need-returns
-returns c = entry-whole _ _ (c .before .before .before .before .before .before .pre .1) (c .before .before .before .before .before .before .pre .2) (c .before .before .fill .ensures)
+returns c = entry-whole _ _ (c .before .before .before .before .before .before .pre .1) (c .before .before .before .before .before .before .pre .2) (c .before .before .fill .ensures) (λ z. absurd (omega (arith, c .before .before .before .before .before .before .pre .3)))
 
 pub with-rows-spec : {M : Type 1} → statement M
 with-rows-spec = tie.close (tie.spec fill-requires sub-t12 cast-t13 returns)

@@ -1,7 +1,6 @@
--- The leading bits, then eid, iid, parameter and status.
+-- The leading bits, then eid, iid and parameter up to its rows.
 -- Assumes nothing.
-use mathlib.Core.Path.{_∙_}
-use Rattle.apdu_reading.proofs.ServiceMessages.{action-response-is, room-after}
+use Rattle.apdu_reading.proofs.ServiceMessages.{action-response-opens}
 use Rattle.apdu_reading.proofs.services.action_response.Statement.{statement}
 use Rattle.apdu_reading.proofs.services.action_response.Tie as tie
 
@@ -26,14 +25,14 @@ integer-requires c κs = c .before .before .before .before .before .before .pre 
 integer-if-requires : tie.Need-integer-if-requires
 integer-if-requires c κs = c .before .before .before .before .before .before .before .pre .0
 
-parameter-requires : tie.Need-parameter-requires
-parameter-requires c κs = (c .before .before .before .before .before .before .before .before .pre .0, c .integer-if .ensures .room ∙ room-after _ _ (c .before .before .before .before .before .before .before .before .pre .1) (c .before .before .before .before .before .before .piece .ensures .0) (c .before .integer .ensures))
+container-if-requires : tie.Need-container-if-requires
+container-if-requires c κs = c .before .before .before .before .before .before .before .before .pre .0
 
-integer-if-requires-2 : tie.Need-integer-if-requires-2
-integer-if-requires-2 c κs = c .before .before .before .before .before .before .before .before .before .before .before .pre .0
+announces-requires : tie.Need-announces-requires
+announces-requires c κs = tt
 
 returns : tie.Need-returns
-returns c = action-response-is _ _ (c .before .before .before .before .before .before .before .before .before .before .before .before .pre .1) (c .before .before .before .before .before .before .before .before .before .before .piece .ensures .0) (c .before .before .before .before .before .before .before .before .before .flag .ensures) (c .before .before .before .before .before .before .before .before .flag2 .ensures) (c .before .before .before .before .before .before .before .flag3 .ensures) (c .before .before .before .before .before .before .read-field .ensures) (c .before .before .before .before .before .integer .ensures) (c .before .before .before .before .integer-if .ensures) (c .before .before .before .parameter .ensures) (c .integer-if2 .ensures)
+returns c = action-response-opens _ _ (c .before .before .before .before .before .before .before .before .before .before .before .pre .1) (c .before .before .before .before .before .before .before .before .before .piece .ensures .0) (c .before .before .before .before .before .before .before .before .flag .ensures) (c .before .before .before .before .before .before .before .flag2 .ensures) (c .before .before .before .before .before .before .flag3 .ensures) (c .before .before .before .before .before .read-field .ensures) (c .before .before .before .before .integer .ensures) (c .before .before .before .integer-if .ensures) (c .before .before .container-if .ensures) (c .before .announces .ensures) (c .before .before .before .before .before .before .before .before .before .before .before .pre .2)
 
 pub action-response-spec : {M : Type 1} → statement M
-action-response-spec = tie.close (tie.spec piece-requires flag-requires flag-requires-2 flag-requires-3 read-field-requires integer-requires integer-if-requires parameter-requires integer-if-requires-2 returns)
+action-response-spec = tie.close (tie.spec piece-requires flag-requires flag-requires-2 flag-requires-3 read-field-requires integer-requires integer-if-requires container-if-requires announces-requires returns)

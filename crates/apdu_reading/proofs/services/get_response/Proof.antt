@@ -1,7 +1,6 @@
--- The leading bits, then eid, iid, attribute list and status.
+-- The leading bits, then eid, iid and the count of the attribute list.
 -- Assumes nothing.
-use mathlib.Core.Path.{_∙_}
-use Rattle.apdu_reading.proofs.ServiceMessages.{get-response-is, room-after}
+use Rattle.apdu_reading.proofs.ServiceMessages.{get-response-opens}
 use Rattle.apdu_reading.proofs.services.get_response.Statement.{statement}
 use Rattle.apdu_reading.proofs.services.get_response.Tie as tie
 
@@ -26,14 +25,11 @@ integer-requires c κs = c .before .before .before .before .before .before .pre 
 integer-if-requires : tie.Need-integer-if-requires
 integer-if-requires c κs = c .before .before .before .before .before .before .before .pre .0
 
-attribute-list-requires : tie.Need-attribute-list-requires
-attribute-list-requires c κs = (c .before .before .before .before .before .before .before .before .pre .0, c .integer-if .ensures .room ∙ room-after _ _ (c .before .before .before .before .before .before .before .before .pre .1) (c .before .before .before .before .before .before .piece .ensures .0) (c .before .integer .ensures))
-
-integer-if-requires-2 : tie.Need-integer-if-requires-2
-integer-if-requires-2 c κs = c .before .before .before .before .before .before .before .before .before .before .before .pre .0
+attributes-if-requires : tie.Need-attributes-if-requires
+attributes-if-requires c κs = c .before .before .before .before .before .before .before .before .pre .0
 
 returns : tie.Need-returns
-returns c = get-response-is _ _ (c .before .before .before .before .before .before .before .before .before .before .before .before .pre .1) (c .before .before .before .before .before .before .before .before .before .before .piece .ensures .0) (c .before .before .before .before .before .before .before .before .before .flag .ensures) (c .before .before .before .before .before .before .before .before .flag2 .ensures) (c .before .before .before .before .before .before .before .flag3 .ensures) (c .before .before .before .before .before .before .read-field .ensures) (c .before .before .before .before .before .integer .ensures) (c .before .before .before .before .integer-if .ensures) (c .before .before .before .attribute-list .ensures) (c .integer-if2 .ensures)
+returns c = get-response-opens _ _ (c .before .before .before .before .before .before .before .before .before .pre .1) (c .before .before .before .before .before .before .before .piece .ensures .0) (c .before .before .before .before .before .before .flag .ensures) (c .before .before .before .before .before .flag2 .ensures) (c .before .before .before .before .flag3 .ensures) (c .before .before .before .read-field .ensures) (c .before .before .integer .ensures) (c .before .integer-if .ensures) (c .attributes-if .ensures) (c .before .before .before .before .before .before .before .before .before .pre .2)
 
 pub get-response-spec : {M : Type 1} → statement M
-get-response-spec = tie.close (tie.spec piece-requires flag-requires flag-requires-2 flag-requires-3 read-field-requires integer-requires integer-if-requires attribute-list-requires integer-if-requires-2 returns)
+get-response-spec = tie.close (tie.spec piece-requires flag-requires flag-requires-2 flag-requires-3 read-field-requires integer-requires integer-if-requires attributes-if-requires returns)

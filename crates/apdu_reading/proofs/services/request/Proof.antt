@@ -1,8 +1,6 @@
--- The leading bits, then eid, type, credentials, parameter and iid.
+-- The leading bits, then eid, type, credentials and parameter up to its rows.
 -- Assumes nothing.
-use mathlib.Core.Path.{_∙_}
-use Rattle.apdu_reading.proofs.ServiceMessages.{request-is, room-after}
-use Rattle.apdu_reading.proofs.Strings.{integer-room}
+use Rattle.apdu_reading.proofs.ServiceMessages.{event-request-opens, action-request-opens, even}
 use Rattle.apdu_reading.proofs.services.request.Statement.{statement}
 use Rattle.apdu_reading.proofs.services.request.Tie as tie
 
@@ -30,14 +28,17 @@ integer-requires-2 c κs = c .before .before .before .before .before .before .be
 string-if-requires : tie.Need-string-if-requires
 string-if-requires c κs = c .before .before .before .before .before .before .before .before .pre .0
 
-parameter-requires : tie.Need-parameter-requires
-parameter-requires c κs = (c .before .before .before .before .before .before .before .before .before .pre .0, c .string-if .ensures .0 .room ∙ integer-room _ _ (c .before .integer2 .ensures .0) ∙ room-after _ _ (c .before .before .before .before .before .before .before .before .before .pre .1) (c .before .before .before .before .before .before .before .piece .ensures .0) (c .before .before .integer .ensures))
+container-if-requires : tie.Need-container-if-requires
+container-if-requires c κs = c .before .before .before .before .before .before .before .before .before .pre .0
 
-integer-if-requires : tie.Need-integer-if-requires
-integer-if-requires c κs = c .before .before .before .before .before .before .before .before .before .before .before .before .pre .0
+announces-requires : tie.Need-announces-requires
+announces-requires c κs = tt
 
 returns : tie.Need-returns
-returns c = request-is _ _ (c .before .before .before .before .before .before .before .before .before .before .before .before .before .pre .1) (c .before .before .before .before .before .before .before .before .before .before .before .piece .ensures .0) (c .before .before .before .before .before .before .before .before .before .before .flag .ensures) (c .before .before .before .before .before .before .before .before .before .flag2 .ensures) (c .before .before .before .before .before .before .before .before .flag3 .ensures) (c .before .before .before .before .before .before .before .flag4 .ensures) (c .before .before .before .before .before .before .integer .ensures) (c .before .before .before .before .before .integer2 .ensures) (c .before .before .before .before .string-if .ensures) (c .before .before .before .parameter .ensures) (c .integer-if .ensures)
+returns c = event-request-opens _ _ (c .before .before .before .before .before .before .before .before .before .before .before .before .before .before .pre .1) (c .before .before .before .before .before .before .before .before .before .before .before .before .piece .ensures .0) _ (c .before .before .before .before .before .before .before .before .before .before .before .flag .ensures) (c .before .before .before .before .before .before .before .before .before .before .flag2 .ensures) (c .before .before .before .before .before .before .before .before .before .flag3 .ensures) (c .before .before .before .before .before .before .before .before .flag4 .ensures) (c .before .before .before .before .before .before .before .integer .ensures) (c .before .before .before .before .before .before .integer2 .ensures) (c .before .before .before .before .before .string-if .ensures) (c .before .before .before .before .container-if .ensures) (c .before .before .before .announces .ensures) (c .if1 .taken)
+
+returns-2 : tie.Need-returns-2
+returns-2 c = action-request-opens _ _ (c .before .before .before .before .before .before .before .before .before .before .before .before .before .before .pre .1) (c .before .before .before .before .before .before .before .before .before .before .before .before .piece .ensures .0) _ (c .before .before .before .before .before .before .before .before .before .before .before .flag .ensures) (c .before .before .before .before .before .before .before .before .before .before .flag2 .ensures) (c .before .before .before .before .before .before .before .before .before .flag3 .ensures) (c .before .before .before .before .before .before .before .before .flag4 .ensures) (c .before .before .before .before .before .before .before .integer .ensures) (c .before .before .before .before .before .before .integer2 .ensures) (c .before .before .before .before .before .string-if .ensures) (c .before .before .before .before .container-if .ensures) (c .before .before .before .announces .ensures) (even _ (c .before .before .before .before .before .before .before .before .before .before .before .before .before .before .pre .2) (c .before .before .before .before .before .before .before .before .before .before .before .before .before .before .pre .3) (c .if1 .left))
 
 pub request-spec : {M : Type 1} → statement M
-request-spec = tie.close (tie.spec piece-requires flag-requires flag-requires-2 flag-requires-3 flag-requires-4 integer-requires integer-requires-2 string-if-requires parameter-requires integer-if-requires returns)
+request-spec = tie.close (tie.spec piece-requires flag-requires flag-requires-2 flag-requires-3 flag-requires-4 integer-requires integer-requires-2 string-if-requires container-if-requires announces-requires returns returns-2)

@@ -1,7 +1,6 @@
--- The leading bits, then eid, credentials, attribute list and iid.
+-- The leading bits, then eid, credentials and the count of the attribute list.
 -- Assumes nothing.
-use mathlib.Core.Path.{_∙_}
-use Rattle.apdu_reading.proofs.ServiceMessages.{set-request-is, room-after}
+use Rattle.apdu_reading.proofs.ServiceMessages.{set-request-opens}
 use Rattle.apdu_reading.proofs.services.set_request.Statement.{statement}
 use Rattle.apdu_reading.proofs.services.set_request.Tie as tie
 
@@ -26,14 +25,11 @@ integer-requires c κs = c .before .before .before .before .before .before .pre 
 string-if-requires : tie.Need-string-if-requires
 string-if-requires c κs = c .before .before .before .before .before .before .before .pre .0
 
-attribute-list-requires : tie.Need-attribute-list-requires
-attribute-list-requires c κs = (c .before .before .before .before .before .before .before .before .pre .0, c .string-if .ensures .0 .room ∙ room-after _ _ (c .before .before .before .before .before .before .before .before .pre .1) (c .before .before .before .before .before .before .piece .ensures .0) (c .before .integer .ensures))
-
-integer-if-requires : tie.Need-integer-if-requires
-integer-if-requires c κs = c .before .before .before .before .before .before .before .before .before .before .before .pre .0
+attributes-if-requires : tie.Need-attributes-if-requires
+attributes-if-requires c κs = c .before .before .before .before .before .before .before .before .pre .0
 
 returns : tie.Need-returns
-returns c = set-request-is _ _ (c .before .before .before .before .before .before .before .before .before .before .before .before .pre .1) (c .before .before .before .before .before .before .before .before .before .before .piece .ensures .0) (c .before .before .before .before .before .before .before .before .before .flag .ensures) (c .before .before .before .before .before .before .before .before .flag2 .ensures) (c .before .before .before .before .before .before .before .read-field .ensures) (c .before .before .before .before .before .before .flag3 .ensures) (c .before .before .before .before .before .integer .ensures) (c .before .before .before .before .string-if .ensures) (c .before .before .before .attribute-list .ensures) (c .integer-if .ensures)
+returns c = set-request-opens _ _ (c .before .before .before .before .before .before .before .before .before .pre .1) (c .before .before .before .before .before .before .before .piece .ensures .0) _ (c .before .before .before .before .before .before .flag .ensures) (c .before .before .before .before .before .flag2 .ensures) (c .before .before .before .before .read-field .ensures) (c .before .before .before .flag3 .ensures) (c .before .before .integer .ensures) (c .before .string-if .ensures) (c .attributes-if .ensures) (c .before .before .before .before .before .before .before .before .before .pre .2)
 
 pub set-request-spec : {M : Type 1} → statement M
-set-request-spec = tie.close (tie.spec piece-requires flag-requires flag-requires-2 read-field-requires flag-requires-3 integer-requires string-if-requires attribute-list-requires integer-if-requires returns)
+set-request-spec = tie.close (tie.spec piece-requires flag-requires flag-requires-2 read-field-requires flag-requires-3 integer-requires string-if-requires attributes-if-requires returns)
