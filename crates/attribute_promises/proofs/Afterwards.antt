@@ -49,13 +49,23 @@ short zero rs = omega arith
 short (suc k) [] = omega arith
 short (suc k) (r ∷ rs) = let q = short k rs in omega arith
 
-set-fits : (n : ℕ) (m : SetRequest) (rs : List Attribute) → setRequestSound n m rs ≡ true → partsFit n (take (m .count) rs) ≡ true
+-- the rows of a SET are inside, and those that its counts announce
+pub set-rows : (n : ℕ) (m : SetRequest) (rs : List Attribute) → setRequestSound n m rs ≡ true
+    → (partsFit n (take (m .rows) rs) ≡ true) × (closes (m .count) (take (m .rows) rs) ≡ true)
 unfolding setRequestSound rowsSound
-set-fits n m rs h =
+set-rows n m rs h =
     let l = take (m .rows) rs in
-    let p = both (partsFit n l) (closes (m .count) l) (both (soundIf (m .«has_credentials») (isInside n (m .credentials) (m .«credentials_length»))) (partsFit n l && closes (m .count) l) h .1) in
-    let k : m .count ≤ m .rows = let a = enough l (m .count) (p .1) in let b = short (m .rows) rs in omega arith in
-    ap (partsFit n) (sym (take-take (m .count) (m .rows) rs k)) ∙ fit-take n (m .count) l (p .0)
+    both (partsFit n l) (closes (m .count) l) (both (soundIf (m .«has_credentials») (isInside n (m .credentials) (m .«credentials_length»))) (partsFit n l && closes (m .count) l) h .1)
+
+-- they stand at the front of its rows
+pub named-front : (n : ℕ) (m : SetRequest) (rs : List Attribute) → setRequestSound n m rs ≡ true → take (m .count) (take (m .rows) rs) ≡ take (m .count) rs
+named-front n m rs h =
+    let l = take (m .rows) rs in
+    let k : m .count ≤ m .rows = let a = enough l (m .count) (set-rows n m rs h .1) in let b = short (m .rows) rs in omega arith in
+    take-take (m .count) (m .rows) rs k
+
+set-fits : (n : ℕ) (m : SetRequest) (rs : List Attribute) → setRequestSound n m rs ≡ true → partsFit n (take (m .count) rs) ≡ true
+set-fits n m rs h = ap (partsFit n) (sym (named-front n m rs h)) ∙ fit-take n (m .count) (take (m .rows) rs) (set-rows n m rs h .0)
 
 -- ---- the call
 
@@ -69,7 +79,7 @@ module _ (tag : Tag) (s out : List ℕ) where
   sound-then : first ≡ 0 → soundDirectory (length (tag .factory)) (length (tag .writable)) (tag .directory) ≡ true
   sound-then z = not-false _ (first-none 25 _ [] (first-none 0 _ _ z .1) .0)
 
-  no-fault : (m : SetRequest) (attributes : List Attribute) → setStatus tag s m attributes ≡ 0 → firstOf (setFaults (tag .directory) (sureOf m) (take (m .count) attributes)) ≡ 0
+  pub no-fault : (m : SetRequest) (attributes : List Attribute) → setStatus tag s m attributes ≡ 0 → firstOf (setFaults (tag .directory) (sureOf m) (take (m .count) attributes)) ≡ 0
   unfolding setStatus
   no-fault m attributes z = first-none 1 _ _ z .1
 

@@ -103,15 +103,15 @@ denied-shut row g = rw g
 
 -- ---- an attribute without a fault
 
-record Fine (rows : List Row) (exact : Bool) (a : Attribute) : Type 0 where
+pub record Fine (rows : List Row) (exact : Bool) (a : Attribute) : Type 0 where
   known : knownIn (a .id) rows ≡ true
-  string : a .kind ≡ octetString
+  pub string : a .kind ≡ octetString
   whole : a .n ≡ rowOf (a .id) rows .length
   ours : rowOf (a .id) rows .writable ≡ true
   free : denied exact (rowOf (a .id) rows) ≡ false
 
 module _ (rows : List Row) (exact : Bool) where
-  fine-first : (a : Attribute) (rest : List Attribute) → firstOf (setFaults rows exact (a ∷ rest)) ≡ 0 → Fine rows exact a × (firstOf (setFaults rows exact rest) ≡ 0)
+  pub fine-first : (a : Attribute) (rest : List Attribute) → firstOf (setFaults rows exact (a ∷ rest)) ≡ 0 → Fine rows exact a × (firstOf (setFaults rows exact rest) ≡ 0)
   unfolding setFaults setFault
   fine-first a rest h =
       let p = first-none 1 (not (knownIn (a .id) rows) || (not (eqb (a .kind) octetString) || not (eqb (a .n) (rowOf (a .id) rows .length)))) _ h in

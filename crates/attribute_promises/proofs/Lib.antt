@@ -2,4 +2,12 @@ pub mod Promises
 pub mod Kept
 pub mod Afterwards
 pub mod Plain
+pub mod Repeated
+pub mod Writing
+pub mod Replies
+pub mod GetValues
 pub mod Refusals
+pub mod RefusesOnly
+pub mod SameRecord
+pub mod SameService
+pub mod OneEffect

@@ -1,13 +1,18 @@
 -- What is proved of the request call besides its definition (01, "Reading and setting attributes"): no reply is longer than 512 octets, a reply reads back
 -- as the message that is sent, a SET with a fault writes nothing, and without the tag's exact credentials the octets of protected rows play no part in a
--- reply (proofs/Promises.antt). RowKept, ProtectedKept and SetThenGet speak of the octets of a row after any call (proofs/Afterwards.antt).
+-- reply (proofs/Promises.antt). RowKept, ProtectedKept and SetThenGet speak of the octets of a row after any call (proofs/Afterwards.antt). OneEffect and
+-- Determined say that the request's octets and the tag leave one answer, one writable area and one output (proofs/OneEffect.antt). RefusesOnly says that the
+-- call has 01's refusals, in 01's order, and no others (proofs/RefusesOnly.antt).
 -- Assumes nothing.
 use Prim.Native.Nat.{ℕ, _≤_}
 use mathlib.Core.Path.{_≡_}
 use mathlib.Core.List.{List, [], _∷_, _++_}
 use mathlib.Core.Bool.{Bool, true, false}
+use lib.Dec.{ltb}
 use lib.ListN.{length, take}
+use Rattle.refusals.specs.Check.{pick}
 use Rattle.apdu_format.specs.Reading.{readMessage}
+use Rattle.apdu_format.specs.Reading.{Outcome as ReadOutcome, refused as unread, message as read}
 use Rattle.apdu_format.specs.RoundTrip.{ReadAs}
 use Rattle.apdu.specs.Values.{valuesOf}
 use Rattle.apdu.specs.declared.records.Message.{Message}
@@ -15,13 +20,14 @@ use Rattle.apdu.specs.declared.records.Message.the-variants as kind
 use Rattle.apdu_reading.specs.declared.front.Answer.{Answer}
 use Rattle.apdu_reading.specs.declared.front.Answer.the-variants as answer
 use Rattle.apdu_reading.specs.declared.front.Reading.{Reading}
-use Rattle.apdu_reading.specs.Answers.{outcomeOf, SoundRecord}
+use Rattle.apdu_reading.specs.Answers.{outcomeOf, Tidy, SoundRecord}
 use Rattle.apdu.specs.declared.records.SetRequest.{SetRequest}
 use Rattle.apdu.specs.declared.records.GetRequest.{GetRequest}
 use Rattle.bits.specs.Strings.{stringAt}
 use Rattle.directory.specs.declared.Row.{Row}
 use Rattle.directory.specs.Directory.{soundDirectory, knownIn, rowOf}
-use Rattle.attributes.specs.Serving.{leastOutput, Attribute, Tag, Reply, Outcome, refused, refusedAt, silent, replied, Effect, noEntries, sent, valueOf, exact, idsFrom, setStatus, getReply, requested}
+use Rattle.attributes.specs.Serving.{leastOutput, Attribute, Tag, Reply, Outcome, refused, refusedAt, silent, replied, Effect, noEntries, sent, valueOf, exact, idsFrom, served, setStatus, getReply, requested, Answered}
+use Rattle.attributes.specs.declared.answers.RequestAnswer.{RequestAnswer}
 
 -- a reply has at most 512 octets
 pub record Short (e : Effect) : Type 0 where
@@ -129,3 +135,63 @@ pub record Unchanged (tag : Tag) (out : List ℕ) (e : Effect) : Type 0 where
 
 unfoldable pub RefusalKeeps : Type 0
 RefusalKeeps = (tag : Tag) (s : List ℕ) (r : Reading) (out : List ℕ) → outcomeOf s r ≡ readMessage s → Unchanged tag out (requested tag s r out)
+
+-- ---- one effect for each request
+
+-- r meets the contract of `read` for the octets s
+pub record Reads (s : List ℕ) (r : Reading) : Type 0 where
+  pub outcome : outcomeOf s r ≡ readMessage s
+  pub tidy : Tidy r
+  pub sound : SoundRecord s r
+
+-- whichever record reading makes of s, the effect is the same
+unfoldable pub OneEffect : Type 0
+OneEffect = (tag : Tag) (s out : List ℕ) (r q : Reading) → Reads s r → Reads s q → requested tag s r out ≡ requested tag s q out
+
+-- so the contract of the request call determines its answer, the writable area and the output
+unfoldable pub Determined : Type 0
+Determined =
+    (tag : Tag) (s out : List ℕ) (a b : RequestAnswer) (w w' o o' : List ℕ) → Answered tag s out a w o → Answered tag s out b w' o' → (a ≡ b) × (w ≡ w') × (o ≡ o')
+
+-- ---- what the call refuses (01: "Checks: 1 (output below 512), 26, those of reading, 24")
+
+-- a refusal, with its position where it has one; or none
+pub data Refusal : Type 0 where
+  none : Refusal
+  number : ℕ → Refusal
+  numberAt : ℕ → ℕ → Refusal
+
+-- silence and a reply are no refusal
+unfoldable pub refusalIn : Outcome → Refusal
+refusalIn (refused k) = number k
+refusalIn (refusedAt k p) = numberAt k p
+refusalIn silent = none
+refusalIn (replied n) = none
+
+unfoldable pub firstRefusal : List Refusal → Refusal
+firstRefusal [] = none
+firstRefusal (none ∷ rest) = firstRefusal rest
+firstRefusal (number k ∷ rest) = number k
+firstRefusal (numberAt k p ∷ rest) = numberAt k p
+
+-- the output is below 512 octets
+abbrev pub smallOutput : List ℕ → Refusal
+smallOutput out = pick (ltb (length out) leastOutput) (number 1) none
+
+abbrev pub unsoundDirectory : Tag → Refusal
+unsoundDirectory tag = pick (soundDirectory (length (tag .factory)) (length (tag .writable)) (tag .directory)) none (number 26)
+
+unfoldable pub unreadable : ReadOutcome → Refusal
+unreadable (unread k p) = numberAt k p
+unreadable (read vs end) = none
+
+-- a message that is not served
+unfoldable pub unserved : Answer → Refusal
+unserved (answer.Refused k p) = none
+unserved (answer.Message m) = pick (served m) none (number 24)
+
+-- the first of these that holds is the call's refusal, and there is no other: a request that passes them has its reply, or the silence of a SET with mode 0
+unfoldable pub RefusesOnly : Type 0
+RefusesOnly =
+    (tag : Tag) (s : List ℕ) (r : Reading) (out : List ℕ) → Reads s r
+    → refusalIn (requested tag s r out .outcome) ≡ firstRefusal (smallOutput out ∷ unsoundDirectory tag ∷ unreadable (readMessage s) ∷ unserved (r .answer) ∷ [])

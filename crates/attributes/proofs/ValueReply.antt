@@ -49,24 +49,24 @@ rows-front v q at (row ∷ rows) h =
     let i = rows-front v q (at + row .length) rows (omega arith) in
     rw (e, i)
 
-rows-fit : (n at : ℕ) (rows : List Row) → at + total rows ≤ n → partsFit n (attributesAt at rows) ≡ true
+pub rows-fit : (n at : ℕ) (rows : List Row) → at + total rows ≤ n → partsFit n (attributesAt at rows) ≡ true
 unfolding total partsFit partFits attributesAt isInside
 rows-fit n at [] h = refl
 rows-fit n at (row ∷ rows) h =
     let k : 8 * at + 8 * row .length ≤ 8 * n = omega arith in
     and-true (le-leb (8 * at + 8 * row .length) (8 * n) k) (rows-fit n (at + row .length) rows (omega arith))
 
-count-places : (at : ℕ) (rows : List Row) → length (attributesAt at rows) ≡ length rows
+pub count-places : (at : ℕ) (rows : List Row) → length (attributesAt at rows) ≡ length rows
 unfolding attributesAt
 count-places at [] = refl
 count-places at (row ∷ rows) = ap suc (count-places (at + row .length) rows)
 
-count-rows : (rows : List Row) (ids : List ℕ) → length (rowsOf rows ids) ≡ length ids
+pub count-rows : (rows : List Row) (ids : List ℕ) → length (rowsOf rows ids) ≡ length ids
 unfolding rowsOf
 count-rows rows [] = refl
 count-rows rows (id ∷ ids) = ap suc (count-rows rows ids)
 
-count-ids : (s : List ℕ) (at n : ℕ) → length (idsFrom s at n) ≡ n
+pub count-ids : (s : List ℕ) (at n : ℕ) → length (idsFrom s at n) ≡ n
 unfolding idsFrom
 count-ids s at zero = refl
 count-ids s at (suc n) = ap suc (count-ids s (at + 8) n)

@@ -1,4 +1,4 @@
--- What the private functions compute and what they ask of a request that was read. No public contract cites these.
+-- What the private functions compute and what they ask of a request that was read. Of these public contracts cite only tagOf, a tag from its parts.
 -- Assumes nothing.
 use Prim.Native.Nat.{ℕ, _+_, _*_, _≤_}
 use mathlib.Core.Path.{_≡_}

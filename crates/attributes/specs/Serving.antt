@@ -114,7 +114,7 @@ getStatus tag s m =
     let sure = exact s (tag .credentials) (m .«has_credentials») (m .credentials) (m .«credentials_length») in
     firstOf (check 2 (not (eqb (m .eid) (tag .eid))) ∷ check 2 (not (m .«has_ids»)) ∷ getFaults (tag .directory) sure (idsFrom s (m .ids) (m .count)))
 
--- wrong eid; the first faulty row
+-- wrong eid; the first faulty row. Attributes lie flat, a list before its own; one that is a list is faulty itself, so none behind it is reached
 unfoldable pub setStatus : Tag → List ℕ → SetRequest → List Attribute → ℕ
 setStatus tag s m attributes =
     let sure = exact s (tag .credentials) (m .«has_credentials») (m .credentials) (m .«credentials_length») in
@@ -311,7 +311,8 @@ toldOf (told.RefusedAt k p) = refusedAt k p
 toldOf told.NoReply = silent
 toldOf (told.Reply n) = replied n
 
--- the call's answer r, its writable area w and its output out' afterwards are those of the definition, for the record that reading makes of s
+-- the call's answer r, its writable area w and its output out' afterwards are those of the definition, for the record that reading makes of s; every record
+-- that meets reading's contract gives the same ones (OneEffect and Determined in attribute_promises)
 pub record Answered (tag : Tag) (s out : List ℕ) (r : RequestAnswer) (w out' : List ℕ) : Type 0 where
   pub reading : Reading
   pub read : outcomeOf s reading ≡ readMessage s

@@ -13,10 +13,7 @@ use directory::Directory;
 use directory::Row;
 use directory::find;
 
-// Room for the values of as many rows as a GET can name.
-const MOST_OCTETS: usize = 2032;
-
-// The values one behind the other, and the attributes that tell where each stands.
+// The values one behind the other, with room for 16 of 127 octets, and the attributes that tell where each stands.
 pub struct Values {
     pub octets: [u8; 2032],
     pub attributes: [apdu::Row; 32],

@@ -73,59 +73,6 @@ unfolding rowSound
 inside-area f w row e =
     leb-true (row .start + row .length) (areaOctets f w row) (and-right-true (leb (row .length) 127) _ (and-right-true (leb (row .id) 127) _ e))
 
-module _ (f w : ℕ) (d : Directory) (id : ℕ) (long : length (d .rows) ≡ 32) {b : Bool} (is : b ≡ soundDirectory f w (listOf d)) where
-  pub sound-few : not b ≡ false → d .count ≤ 32
-  sound-few s =
-      by-cases (leb (d .count) 32) (λ t. leb-true (d .count) 32 t)
-      (λ t.
-      let z : true ≡ false = sym (not-false b s) ∙ is ∙ sym (too-many f w d (leb-false (d .count) 32 t)) in
-      let k : _≡_ {A = ℕ} 0 1 = cc in
-      absurd (omega arith))
-
-  pub unsound-row : not b ≡ true → noRow ≡ lookupRow f w (listOf d) id
-  unfolding lookupRow
-  unsound-row s = simp (← is, not-true b s)
-
-  pub unsound-answer : not b ≡ true → answerOf (Refused 26) ≡ knowing f w (listOf d) id
-  unfolding knowing answerOf firstOf decided
-  unsound-answer s = simp (← is, not-true b s)
-
-  module _ (s : not b ≡ false) {i : ℕ} (at : i ≡ indexOf id (take (d .count) (d .rows))) where
-    index-is : indexOf id (listOf d) ≡ i
-    index-is = ap (indexOf id) (list-is f w d (sound-few s) long) ∙ sym at
-
-    known-is : knownIn id (listOf d) ≡ ltb i (d .count)
-    unfolding knownIn
-    known-is = rw (index-is, count-is f w d (sound-few s) long)
-
-    pub known-answer : answerOf (Known (ltb i (d .count))) ≡ knowing f w (listOf d) id
-    unfolding knowing answerOf firstOf decided
-    known-answer = simp (← is, not-false b s, known-is)
-
-    pub unknown-row : d .count ≤ i → noRow ≡ lookupRow f w (listOf d) id
-    unfolding lookupRow
-    unknown-row h = simp (← is, not-false b s, known-is, le-ltb _ _ h)
-
-    module _ (h : i < d .count) where
-      row-is : rowOf id (listOf d) ≡ getD (d .rows) i noRow
-      unfolding rowOf
-      row-is = rw (index-is, list-is f w d (sound-few s) long) (getD-take (d .count) (d .rows) i noRow h)
-
-      pub known-row : getD (d .rows) i noRow ≡ lookupRow f w (listOf d) id
-      unfolding lookupRow
-      known-row = simp (← is, not-false b s, known-is, lt-ltb _ _ h, row-is)
-
-      pub known-inside : getD (d .rows) i noRow .start + getD (d .rows) i noRow .length ≤ areaOctets f w (getD (d .rows) i noRow)
-      unfolding soundDirectory
-      known-inside =
-          let t : soundDirectory f w (listOf d) ≡ true = sym is ∙ not-false b s in
-          let e : eachSound f w (listOf d) ≡ true =
-          and-left-true _ (allApart (listOf d)) (and-right-true (leb (length (listOf d)) mostRows) _ t) in
-          let k : i < length (listOf d) = omega (arith, count-is f w d (sound-few s) long) in
-          let g : getD (listOf d) i noRow ≡ getD (d .rows) i noRow =
-          ap (λ (l : List Row). getD l i noRow) (list-is f w d (sound-few s) long) ∙ getD-take (d .count) (d .rows) i noRow h in
-          inside-area f w (getD (d .rows) i noRow) (ap (rowSound f w) (sym g) ∙ each-at f w (listOf d) i e k)
-
 -- ---- finding by value
 
 module _ (d : Directory) (id : ℕ) where
@@ -194,7 +141,38 @@ pub row-short : (f w : ℕ) (row : Row) → rowSound f w row ≡ true → row .l
 unfolding rowSound
 row-short f w row e = leb-true (row .length) 127 (and-left-true (leb (row .length) 127) _ (and-right-true (leb (row .id) 127) _ e))
 
--- the row that is found, and that its part is inside its area
+-- what lookup and the second call answer
+module _ (f w : ℕ) (rows : List Row) (id : ℕ) {b : Bool} (is : b ≡ soundDirectory f w rows) where
+  pub unsound-row : not b ≡ true → noRow ≡ lookupRow f w rows id
+  unfolding lookupRow
+  unsound-row s = simp (← is, not-true b s)
+
+  pub unsound-answer : not b ≡ true → answerOf (Refused 26) ≡ knowing f w rows id
+  unfolding knowing answerOf firstOf decided
+  unsound-answer s = simp (← is, not-true b s)
+
+  module _ (s : not b ≡ false) {found : Found} (at : found ≡ finding rows id) where
+    sound-is : soundDirectory f w rows ≡ true
+    sound-is = sym is ∙ not-false b s
+
+    few : leb (length rows) mostRows ≡ true
+    few = le-leb (length rows) mostRows (sound-short f w rows sound-is)
+
+    both-are : found ≡ record { known = knownIn id rows; row = rowOf id rows }
+    both-are = at ∙ few-finding rows (sound-short f w rows sound-is) id
+
+    pub known-answer : answerOf (Known (found .known)) ≡ knowing f w rows id
+    unfolding knowing answerOf firstOf decided
+    known-answer = rw (both-are, sound-is)
+
+    pub found-row : found .row ≡ lookupRow f w rows id
+    unfolding lookupRow finding
+    found-row = rw at (by-cases (knownIn id rows) (λ k. simp (few, sound-is, k)) (λ k. simp (few, sound-is, k)))
+
+    pub found-inside : found .row .start + found .row .length ≤ areaOctets f w (found .row)
+    found-inside = rw both-are (inside-area f w (rowOf id rows) (sound-row f w rows sound-is id))
+
+-- a row whose part is inside its area
 module _ (f w : ℕ) (r : Row) where
   pub no-row-inside : r ≡ noRow → r .start + r .length ≤ areaOctets f w r
   no-row-inside e = rw e (omega arith)

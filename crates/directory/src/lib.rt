@@ -7,13 +7,14 @@ ghost use Rattle.directory.specs.Part.{PartOf};
 ghost use Rattle.directory.specs.Directory.{noRow, areaOctets, rowSound, eachSound, sameArea, shareOctet, clashes, allApart, soundDirectory, indexOf, finding, lookupRow, LookedUp, knowing, answerOf, areaOf};
 ghost use Rattle.directory.specs.Gathered.{noDirectory, withRow, gathered, listOf};
 
-// 01's attribute row. A start and a length count octets.
+// 01's attribute row. A start and a length count octets. The two long fields stand first, so that the only gap is behind the last one: a directory is then
+// copied as one block.
 pub struct Row {
+    pub start: usize,
+    pub length: usize,
     pub id: u8,
     // In the writable area; else in the factory area.
     pub writable: bool,
-    pub start: usize,
-    pub length: usize,
     pub protected: bool,
 }
 
@@ -174,24 +175,7 @@ pub fn sound_in(d: Directory, factory: usize, writable: usize) -> bool
 
 // ---- looking up
 
-// The index of the first row with the id, or the number of rows.
-fn index_of(d: Directory, id: u16) -> usize
-    requires { ⌜ d .count ≤ 32 ⌝ }
-    ensures { λ r. ⌜ (r ≡ indexOf id (take (d .count) (d .rows))) × (r ≤ d .count) ⌝ }
-{
-    let n = d.count;
-    let mut i: usize = 0;
-    while i < n {
-        let row = d.rows[i];
-        if row.id as u16 == id {
-            return i;
-        }
-        i += 1;
-    }
-    n
-}
-
-// The row with the id; in a directory of more than 32 rows none is found.
+// The first row with the id; in a directory of more than 32 rows none is found.
 pub fn find(d: Directory, id: u16) -> Found
     ensures { λ r. ⌜ r ≡ finding (listOf d) id ⌝ }
 {
@@ -202,30 +186,29 @@ pub fn find(d: Directory, id: u16) -> Found
             row: no_row(),
         };
     }
-    let i = index_of(d, id);
-    if n <= i {
-        return Found {
-            known: false,
-            row: no_row(),
-        };
+    let mut i: usize = 0;
+    while i < n {
+        let row = d.rows[i];
+        if row.id as u16 == id {
+            return Found { known: true, row };
+        }
+        i += 1;
     }
-    let row = d.rows[i];
-    Found { known: true, row }
+    Found {
+        known: false,
+        row: no_row(),
+    }
 }
 
 // The row whose part lookup gives.
-fn row_for(d: Directory, factory: usize, writable: usize, id: u8) -> Row
+pub fn row_for(d: Directory, factory: usize, writable: usize, id: u8) -> Row
     ensures { λ r. ⌜ (r ≡ lookupRow factory writable (listOf d) id) × (r .start + r .length ≤ areaOctets factory writable r) ⌝ }
 {
     if !sound_in(d, factory, writable) {
         return no_row();
     }
-    let i = index_of(d, id as u16);
-    let n = d.count;
-    if n <= i {
-        return no_row();
-    }
-    d.rows[i]
+    let found = find(d, id as u16);
+    found.row
 }
 
 // A part of a lent area: the area's own octets, at their place.
@@ -256,8 +239,8 @@ pub fn knows_in(d: Directory, factory: usize, writable: usize, id: u8) -> KnowsA
     if !sound_in(d, factory, writable) {
         return KnowsAnswer::Refused(refusals::LIST_NOT_SOUND);
     }
-    let i = index_of(d, id as u16);
-    KnowsAnswer::Known(i < d.count)
+    let found = find(d, id as u16);
+    KnowsAnswer::Known(found.known)
 }
 
 // ---- the lent rows
