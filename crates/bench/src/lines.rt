@@ -1,89 +1,11 @@
 // Lines of the input, one after the other.
-use crate::Columns;
 use crate::Run;
-use crate::answers::columns;
-use crate::printing::front;
 use crate::printing::print_heading;
 use crate::printing::print_line;
 use crate::printing::print_totals;
-use bench_lines::LineRead;
+use bench_joining::front;
 use bench_lines::Totals;
-use header::HeaderRead;
 use libc::STDIN_FILENO;
-use reassembly::FragmentAnswer;
-use slots::Table;
-
-// What a fragment's header tells: its message number, and how many octets of payload there are. 0 and 0 where it is not valid.
-pub struct Headed {
-    pub number: u8,
-    pub payload: usize,
-}
-
-// The table after a line, and what to show of it.
-pub struct Taken {
-    pub table: Table,
-    pub columns: Columns,
-}
-
-fn header_of(lsdu: &[u8]) -> Headed {
-    match header::read(lsdu) {
-        HeaderRead::Fields { header, size } => {
-            if lsdu.len() < size {
-                return Headed {
-                    number: 0,
-                    payload: 0,
-                };
-            }
-            Headed {
-                number: header.number,
-                payload: lsdu.len() - size,
-            }
-        }
-        HeaderRead::Refused(_) => Headed {
-            number: 0,
-            payload: 0,
-        },
-    }
-}
-
-// The fragment call for one LSDU.
-fn join(
-    lid: u32,
-    tick: u32,
-    lsdu: &[u8],
-    table: Table,
-    store: &mut [u8],
-    output: &mut [u8],
-) -> Taken {
-    let result = reassembly::fragment(lid, tick, lsdu, table, store, output);
-    let answer = result.answer;
-    let after = result.table;
-    let fragment = header_of(lsdu);
-    let held = reassembly::held_for(after, lid, fragment.number);
-    Taken {
-        table: after,
-        columns: columns(answer, held, fragment.payload),
-    }
-}
-
-// One line: a line not of 01's form goes no further.
-fn take_line(
-    line: &[u8],
-    table: Table,
-    lsdu: &mut [u8],
-    store: &mut [u8],
-    output: &mut [u8],
-) -> Taken {
-    match bench_lines::read_line(line, lsdu) {
-        LineRead::Fields { lid, tick, octets } => {
-            join(lid, tick, front(lsdu, octets), table, store, output)
-        }
-        LineRead::Refused(number) => Taken {
-            table,
-            columns: columns(FragmentAnswer::Refused(number), 0, 0),
-        },
-    }
-}
 
 fn add(a: u64, b: u64) -> u64 {
     std::num::wrapping_add_u64(a, b)
@@ -99,7 +21,7 @@ fn after_line(
     text: &mut [u8],
 ) -> Run {
     let table = run.table;
-    let taken = take_line(line, table, lsdu, store, output);
+    let taken = bench_joining::take_line(line, table, lsdu, store, output);
     let columns = taken.columns;
     let after = taken.table;
     let number = add(run.lines, 1);

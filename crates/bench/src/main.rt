@@ -1,20 +1,9 @@
 // Runs recorded lines from standard input through the reassembly and prints what each fragment did (01, "The bench program"). Its memory does not
 // grow with the input: lines are split, read and answered in lent buffers.
-mod answers;
 mod lines;
 mod printing;
 
-use bench_lines::BenchAnswer;
 use slots::Table;
-
-// A line's answer, its two numbers, and what it adds to the totals.
-pub struct Columns {
-    pub answer: BenchAnswer,
-    pub octets: u64,
-    pub dropped: u64,
-    pub accepted: u64,
-    pub delivered: u64,
-}
 
 // What goes on from line to line: the table, the lines counted, the totals, the octets of a line that has not ended, the octets of text not yet
 // written.

@@ -1,20 +1,9 @@
 // Text is gathered in a buffer and written when the buffer has no more room.
-ghost use mathlib.Core.Path.{_≡_};
-ghost use lib.ListN.{take};
-use crate::Columns;
+use bench_joining::Columns;
+use bench_joining::front;
 use bench_lines::Appended;
 use bench_lines::Totals;
 use libc::STDOUT_FILENO;
-
-// The first `n` octets, or all where there are fewer.
-pub(crate) fn front(s: &[u8], n: usize) -> &[u8]
-    ensures { λ r. ⌜ now r ≡ take n (now (s .entry)) ⌝ }
-{
-    if n <= s.len() {
-        return &s[..n];
-    }
-    s
-}
 
 // Writes the first `place` octets of `text` to standard output.
 pub(crate) fn flush(text: &[u8], place: usize) {

@@ -1,5 +1,5 @@
 -- Lines out of octets that come in parts (01, "The bench program": lines of at most 600 characters). A line ends before a line feed. The line so far is
--- kept in a lent buffer, as much of it as the buffer has room for: with room for 601, a line that is too long still is (proofs/Splitting.antt).
+-- kept in a lent buffer, as much of it as the buffer has room for: with room for 601, a line that is too long still is (proofs/Parts.antt).
 -- Assumes nothing.
 use Prim.Native.Nat.{ℕ, _+_}
 use mathlib.Core.List.{List, _++_}

@@ -107,7 +107,7 @@ lowestFree table = trailingZeros 32 ((2 ^ 32 - 1) - table .busy)
 
 -- ---- looking up and changing
 
--- a slot with a next counter above 0: in a isSound table these are the busy ones
+-- a slot with a next counter above 0: in a sound table these are the busy ones
 abbrev pub isBusy : Slot → Bool
 isBusy slot = not (eqb (slot .next) 0)
 

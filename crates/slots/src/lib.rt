@@ -19,15 +19,15 @@ pub const LOWEST_NUMBER: u8 = 2;
 
 pub const HIGHEST_NUMBER: u8 = 15;
 
-// One place of 01's table. A free slot is all zero.
+// One place of 01's table. A free slot is all zero. The longest field comes first, so that there are no gaps between fields.
 pub struct Slot {
+    pub held: usize,
     pub lid: u32,
-    pub number: u8,
     // The counter that is expected next: as many as there were fragments.
     pub next: u32,
-    pub held: usize,
     // The tick of opening.
     pub tick: u32,
+    pub number: u8,
 }
 
 pub struct Table {

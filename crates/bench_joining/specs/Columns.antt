@@ -7,7 +7,7 @@ use Rattle.refusals.specs.Check.{pick}
 use Rattle.bench_lines.specs.declared.BenchAnswer.the-variants as shown
 use Rattle.reassembly.specs.declared.FragmentAnswer.{FragmentAnswer}
 use Rattle.reassembly.specs.declared.FragmentAnswer.the-variants as answer
-use Rattle.bench.specs.declared.Columns.{Columns}
+use Rattle.bench_joining.specs.declared.Columns.{Columns}
 
 -- a refusal adds nothing to the totals
 unfoldable pub refusedWith : (number octets : ℕ) → Columns

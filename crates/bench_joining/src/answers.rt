@@ -1,11 +1,11 @@
 // What a line of output shows of a fragment call's answer.
 ghost use mathlib.Core.Path.{_≡_};
-ghost use Rattle.bench.specs.Columns.{columnsOf, refusedColumns, refusedWith};
+ghost use Rattle.bench_joining.specs.Columns.{columnsOf, refusedColumns, refusedWith};
 use crate::Columns;
 use bench_lines::BenchAnswer;
 use reassembly::FragmentAnswer;
 
-// The first refusal of a fragment whose header is valid: from there on the octets held for the pair are shown.
+// The first refusal of a fragment that has a pair: from there on the octets held for the pair are shown.
 const FIRST_WITH_PAIR: u8 = refusals::NO_PAYLOAD;
 
 // The columns of an answer, where `held` octets are held for the pair after the call, and the fragment has `payload` octets.

@@ -1,10 +1,10 @@
--- `bench::printing::front` meets its contract: the first octets are all where there are fewer. Assumes nothing.
+-- `bench_joining::joining::front` meets its contract: the first octets are all where there are fewer. Assumes nothing.
 use borrow.Author.Needs.{needs}
 use native.Mathlib.Omega.{arith}
 use mathlib.Core.Path.{sym}
 use lib.Seq.{length-take-le, take-all}
-use Rattle.bench.proofs.printing.front.Statement.{statement}
-use Rattle.bench.proofs.printing.front.Tie as tie
+use Rattle.bench_joining.proofs.joining.front.Statement.{statement}
+use Rattle.bench_joining.proofs.joining.front.Tie as tie
 
 slice-aggregate-result : tie.Need-slice-aggregate-result
 slice-aggregate-result c = sym (length-take-le (c .before .before .args .n) (c .before .before .args .s .now) (omega arith))

@@ -1,10 +1,10 @@
--- `bench::answers::columns` meets its contract, case by case. Assumes nothing.
+-- `bench_joining::answers::columns` meets its contract, case by case. Assumes nothing.
 use borrow.Author.Needs.{needs}
 use mathlib.Core.Path.{_∙_, sym, ap}
 use Rattle.reassembly.specs.declared.FragmentAnswer.{FragmentAnswer}
-use Rattle.bench.specs.Columns.{columnsOf}
-use Rattle.bench.proofs.answers.columns.Statement.{statement}
-use Rattle.bench.proofs.answers.columns.Tie as tie
+use Rattle.bench_joining.specs.Columns.{columnsOf}
+use Rattle.bench_joining.proofs.answers.columns.Statement.{statement}
+use Rattle.bench_joining.proofs.answers.columns.Tie as tie
 
 enum-known-answer : tie.Need-enum-known-answer
 enum-known-answer c = search needs

@@ -1,10 +1,10 @@
--- `bench::answers::refused` meets its contract: its test is the definition's. Assumes nothing.
+-- `bench_joining::answers::refused` meets its contract: its test is the definition's. Assumes nothing.
 use borrow.Author.Needs.{needs}
 use mathlib.Core.Path.{_∙_}
 use borrow.Author.Tests.{lt-ltb, le-ltb}
-use Rattle.bench.specs.Columns.{refusedColumns}
-use Rattle.bench.proofs.answers.refused.Statement.{statement}
-use Rattle.bench.proofs.answers.refused.Tie as tie
+use Rattle.bench_joining.specs.Columns.{refusedColumns}
+use Rattle.bench_joining.proofs.answers.refused.Statement.{statement}
+use Rattle.bench_joining.proofs.answers.refused.Tie as tie
 
 no-octets-requires : tie.Need-no-octets-requires
 no-octets-requires c κs = search needs
