@@ -1,0 +1,122 @@
+-- The exported calls of joining: what the code does over the words is what their contracts ask. Assumes nothing.
+use mathlib.Core.Path.{_≡_, refl, sym, ap, subst, _∙_}
+use mathlib.Core.Bool.{Bool, true, false, true≢false}
+use mathlib.Core.List.{List}
+use Prim.Native.Nat.{ℕ}
+use lib.ListN.{length}
+use lib.Dec.{eqb}
+use borrow.Author.Tests.{eq-eqb, eqb-true, eqb-false}
+use Rattle.slots.specs.declared.Table.{Table}
+use Rattle.slots.specs.declared.SweepResult.{SweepResult}
+use Rattle.slots.specs.declared.SweepAnswer.{SweepAnswer}
+use Rattle.slots.specs.Slots.{isSound}
+use Rattle.slots.specs.Sweep.{ExpiryGives, ReleaseGives}
+use Rattle.reassembly.specs.declared.FragmentResult.{FragmentResult}
+use Rattle.reassembly.specs.Engine.{FragmentGives}
+use Rattle.words.specs.TableWords.{tableIn, tableAfter, UnpackingPacked, WrongLength}
+use Rattle.words.proofs.TableLaws.{unpacking-packed, wrong-length, eight-in}
+use Rattle.exports.specs.Fragments.{keptWords, isTaken, fragmentNumber, FragmentExported, isSwept, sweepNumber, SweepExported, ExpiryExported, ReleaseExported}
+use Rattle.exports.specs.Putting.{keptTable, SweepPut}
+use Rattle.exports.proofs.Staying.{Sound, fragment-stays, expiry-stays, release-stays}
+use Rattle.exports.proofs.Answering.{fragment-told, fragment-clear, fragment-same, SweepFacts, expiry-facts, release-facts}
+
+-- ---- the words
+
+-- what the code puts
+module _ (words : List ℕ) (after : Table) (taken : Bool) where
+  pub put-none : taken ≡ false → words ≡ keptTable taken after words
+  unfolding keptTable
+  put-none e = rw e
+
+  pub put-some : (words' : List ℕ) → taken ≡ true → words' ≡ tableAfter after words → words' ≡ keptTable taken after words
+  unfolding keptTable
+  put-some words' e w = rw e w
+
+pub swept-put : (words : List ℕ) (call : SweepResult) (r : ℕ) (words' : List ℕ) (x : SweepAnswer) → call .answer ≡ x → r ≡ sweepNumber x
+    → words' ≡ keptTable (isSwept x) (call .table) words → SweepPut words call r words'
+swept-put words call r words' x e n w = record {
+  number-is = n ∙ sym (ap sweepNumber e);
+  words-are = w ∙ sym (ap (λ (y : SweepAnswer). keptTable (isSwept y) (call .table) words) e);
+}
+
+-- a sound table's words are 41
+long-words : (words : List ℕ) → isSound (tableIn words) ≡ true → length words ≡ 41
+unfolding WrongLength
+long-words words h = go (eqb (length words) 41) refl
+  where
+    go : (b : Bool) → eqb (length words) 41 ≡ b → length words ≡ 41
+    go true e = eqb-true (length words) 41 e
+    go false e = absurd (true≢false (sym h ∙ wrong-length words (eqb-false (length words) 41 e)))
+
+module _ (words : List ℕ) (after : Table) where
+  pub kept-is : (taken : Bool) → (taken ≡ true → isSound (tableIn words) ≡ true) → keptTable taken after words ≡ keptWords taken after words
+  unfolding tableAfter keptTable keptWords
+  kept-is true sound = rw (eq-eqb (length words) 41 (long-words words (sound refl)))
+  kept-is false sound = refl
+
+  pub back-is : (taken : Bool) → (taken ≡ true → Sound after) → (taken ≡ false → after ≡ tableIn words) → tableIn (keptWords taken after words) ≡ after
+  unfolding UnpackingPacked keptWords
+  back-is true stays same = unpacking-packed after (stays refl .eight) (stays refl .sound)
+  back-is false stays same = sym (same refl)
+
+-- the table of any words has eight slots
+sound-in : (words : List ℕ) → isSound (tableIn words) ≡ true → Sound (tableIn words)
+sound-in words h = record { sound = h; eight = eight-in words }
+
+-- ---- a fragment
+
+module _ (lid tick : ℕ) (lsdu words store output store' output' : List ℕ) (call : FragmentResult)
+    (gives : FragmentGives lid tick lsdu (tableIn words) store output call store' output') where
+  pub after-taken : isTaken (call .answer) ≡ true → Sound (call .table)
+  after-taken h =
+      let c = fragment-clear lid tick lsdu (tableIn words) store output call store' output' gives h in
+      fragment-stays lid tick lsdu (tableIn words) store output call store' output' (sound-in words (c .sound)) (c .long) gives
+
+  pub fragment-kept : (words' : List ℕ) → words' ≡ keptTable (isTaken (call .answer)) (call .table) words → words' ≡ keptWords (isTaken (call .answer)) (call .table) words
+  fragment-kept words' e =
+      e ∙ kept-is words (call .table) (isTaken (call .answer)) (λ h. fragment-clear lid tick lsdu (tableIn words) store output call store' output' gives h .sound)
+
+  pub fragment-back : (words' : List ℕ) → words' ≡ keptWords (isTaken (call .answer)) (call .table) words → tableIn words' ≡ call .table
+  fragment-back words' e =
+      ap tableIn e ∙ back-is words (call .table) (isTaken (call .answer)) after-taken (fragment-same lid tick lsdu (tableIn words) store output call store' output' gives)
+
+pub fragment-exported : (lid tick : ℕ) (lsdu words store output : List ℕ) (r : ℕ) (words' store' output' : List ℕ) (table : Table) (call : FragmentResult) (taken : Bool)
+    → table ≡ tableIn words → FragmentGives lid tick lsdu table store output call store' output' → taken ≡ isTaken (call .answer)
+    → words' ≡ keptTable taken (call .table) words → r ≡ fragmentNumber (call .answer) → FragmentExported lid tick lsdu words store output r words' store' output'
+fragment-exported lid tick lsdu words store output r words' store' output' table call taken t g k w n =
+    let gives = subst (λ (x : Table). FragmentGives lid tick lsdu x store output call store' output') t g in
+    let kept = fragment-kept lid tick lsdu words store output store' output' call gives words' (w ∙ ap (λ (b : Bool). keptTable b (call .table) words) k) in
+    record {
+      call = call;
+      gives = gives;
+      number-is = n;
+      told = fragment-told lid tick lsdu (tableIn words) store output call store' output' gives;
+      words-are = kept;
+      table-back = fragment-back lid tick lsdu words store output store' output' call gives words' kept;
+    }
+
+-- ---- expiry and release
+
+sweep-exported : (words : List ℕ) (call : SweepResult) (r : ℕ) (words' : List ℕ) → SweepFacts (tableIn words) call → (Sound (tableIn words) → Sound (call .table))
+    → SweepPut words call r words' → SweepExported words call r words'
+sweep-exported words call r words' facts stays put =
+    let kept = put .words-are ∙ kept-is words (call .table) (isSwept (call .answer)) (facts .clear) in
+    record {
+      number-is = put .number-is;
+      told = facts .told;
+      words-are = kept;
+      table-back = ap tableIn kept ∙ back-is words (call .table) (isSwept (call .answer)) (λ h. stays (sound-in words (facts .clear h))) (facts .same);
+    }
+
+module _ (words : List ℕ) (r : ℕ) (words' : List ℕ) (table : Table) (call : SweepResult) (is : table ≡ tableIn words) (put : SweepPut words call r words') where
+  pub expiry-exported : (tick limit : ℕ) → ExpiryGives tick limit table call → ExpiryExported tick limit words r words'
+  expiry-exported tick limit g =
+      let gives : ExpiryGives tick limit (tableIn words) call = subst (λ (x : Table). ExpiryGives tick limit x call) is g in
+      let facts = expiry-facts (tableIn words) (eight-in words) call tick limit gives in
+      record { call = call; gives = gives; exported = sweep-exported words call r words' facts (λ s. expiry-stays (tableIn words) call s tick limit gives) put }
+
+  pub release-exported : (lid : ℕ) → ReleaseGives lid table call → ReleaseExported lid words r words'
+  release-exported lid g =
+      let gives : ReleaseGives lid (tableIn words) call = subst (λ (x : Table). ReleaseGives lid x call) is g in
+      let facts = release-facts (tableIn words) (eight-in words) call lid gives in
+      record { call = call; gives = gives; exported = sweep-exported words call r words' facts (λ s. release-stays (tableIn words) call s lid gives) put }

@@ -1,0 +1,110 @@
+-- What is read out of a header's number is the header, and of a written one its octets. Assumes nothing.
+use mathlib.Core.Path.{_≡_, refl, sym, ap, _∙_}
+use mathlib.Core.Bool.{Bool, true, false, _&&_}
+use mathlib.Core.List.{List}
+use Prim.Native.Nat.{ℕ, zero, suc, _≤_}
+use native.Mathlib.Omega.{arith}
+use lib.ListN.{length}
+use lib.Dec.{eqb, ltb}
+use borrow.Author.Tests.{ne-eqb}
+use Rattle.refusals.specs.Check.{pick, firstOf, accepted, decided}
+use Rattle.bits.specs.Bits.{Octets}
+use Rattle.header.specs.declared.Header.{Header}
+use Rattle.header.specs.declared.HeaderWritten.{HeaderWritten}
+use Rattle.header.specs.Header.{Fields, bitOf, endBit, lengthFor, headerOf, headerLength, readRefusal, readHeader, writeRefusal, writeHeader, writeAnswer, outputAfter}
+use Rattle.header.specs.RoundTrip.{WritingRead}
+use Rattle.header.proofs.RoundTrip.{writing-read}
+use Rattle.words.specs.Answer.{RefusalTold, UnpackingAnswer}
+use Rattle.words.proofs.Answers.{unpacking-answer}
+use Rattle.exports.specs.Headers.{sizeAndMark, writtenNumber, HeaderTold, ReadTold, UnpackingRead, WrittenTold, UnpackingWritten}
+
+-- a header has one to three octets
+length-small : (s : List ℕ) → headerLength s ≤ 3
+unfolding headerLength
+length-small s = go (eqb (endBit s 0) 1) (eqb (endBit s 1) 1)
+  where
+    go : (a b : Bool) → pick a 1 (pick b 2 3) ≤ 3
+    go true b = omega arith
+    go false true = omega arith
+    go false false = omega arith
+
+size-is : (s : List ℕ) (n : ℕ) (f : Fields) → decided n (record { header = headerOf s; size = headerLength s }) ≡ accepted f → f .size ≡ headerLength s
+unfolding decided
+size-is s zero f e = let q : _≡_ {A = Fields} (record { header = headerOf s; size = headerLength s }) f = cc in ap (λ (x : Fields). x .size) (sym q)
+size-is s (suc n) f e = let z : _≡_ {A = ℕ} 0 1 = cc in absurd (omega arith)
+
+mark-small : (last : Bool) → bitOf last ≤ 1
+mark-small true = omega arith
+mark-small false = omega arith
+
+header-told : (s : List ℕ) (f : Fields) → Octets s → readHeader s ≡ accepted f → HeaderTold f
+unfolding UnpackingAnswer WritingRead readHeader
+header-told s f octets e =
+    let range = writing-read s f octets e .inRange in
+    let size : f .size ≤ 3 = omega (arith, size-is s (readRefusal s) f e, length-small s) in
+    let mark = mark-small (f .header .last) in
+    record {
+      told = unpacking-answer 0 (f .header .number) (f .header .counter) (sizeAndMark (f .size) (f .header .last)) (omega arith) (omega (arith, range .number)) (omega (arith, range .counter)) (omega (arith, mark));
+      size-back = omega (arith, mark, size);
+      last-back = omega (arith, mark, size);
+    }
+
+-- refusals are the checks' numbers, none above 23
+refusal-told : (n : ℕ) → suc n ≤ 23 → RefusalTold (suc n)
+unfolding UnpackingAnswer
+refusal-told n h = (ne-eqb (suc n) 0 (λ e. omega (arith, e)), unpacking-answer (suc n) 0 0 0 (omega arith) (omega arith) (omega arith) (omega arith))
+
+read-five : (s : List ℕ) → readRefusal s ≤ 23
+unfolding readRefusal firstOf
+read-five s = go (ltb (length s) (headerLength s)) (eqb (headerLength s) 3 && eqb (endBit s 2) 1) (ltb (lengthFor (headerOf s .counter)) (headerLength s))
+  where
+    go : (a b c : Bool) → pick a 5 (pick b 5 (pick c 5 0)) ≤ 23
+    go true b c = omega arith
+    go false true c = omega arith
+    go false false true = omega arith
+    go false false false = omega arith
+
+write-number : (h : Header) (room : ℕ) → writeRefusal h room ≤ 23
+unfolding writeRefusal firstOf
+write-number h room = go (ltb 15 (h .number)) (ltb 65535 (h .counter)) (ltb room (lengthFor (h .counter)))
+  where
+    go : (a b c : Bool) → pick a 23 (pick b 23 (pick c 22 0)) ≤ 23
+    go true b c = omega arith
+    go false true c = omega arith
+    go false false true = omega arith
+    go false false false = omega arith
+
+octets-small : (counter : ℕ) → lengthFor counter ≤ 3
+unfolding lengthFor
+octets-small counter = go (ltb counter 4) (ltb counter 512)
+  where
+    go : (a b : Bool) → pick a 1 (pick b 2 3) ≤ 3
+    go true b = omega arith
+    go false true = omega arith
+    go false false = omega arith
+
+pub unpacking-read : UnpackingRead
+unfolding UnpackingRead ReadTold readHeader decided
+unpacking-read s octets = go (readRefusal s) refl (read-five s)
+  where
+    fields : Fields
+    fields = record { header = headerOf s; size = headerLength s }
+
+    go : (n : ℕ) → readRefusal s ≡ n → n ≤ 23 → ReadTold (decided n fields)
+    go zero e h = header-told s fields octets (ap (λ (k : ℕ). decided k fields) e)
+    go (suc n) e h = refusal-told n h
+
+pub unpacking-written : UnpackingWritten
+unfolding UnpackingWritten WrittenTold UnpackingAnswer writeHeader decided
+unpacking-written h room = go (writeRefusal h room) (write-number h room)
+  where
+    go : (n : ℕ) → n ≤ 23 → WrittenTold (decided n (lengthFor (h .counter)))
+    go zero le = unpacking-answer 0 0 (lengthFor (h .counter)) 0 (omega arith) (omega arith) (omega (arith, octets-small (h .counter))) (omega arith)
+    go (suc n) le = refusal-told n le
+
+-- the writer's contract, of the header that is handed in
+pub written-by : (h' h : Header) (out out' : List ℕ) (r : ℕ) (w : HeaderWritten) → h ≡ h' → (writeAnswer w ≡ writeHeader h (length out)) × (out' ≡ outputAfter (writeAnswer w) h out)
+    → r ≡ writtenNumber (writeAnswer w) → (r ≡ writtenNumber (writeHeader h' (length out))) × (out' ≡ outputAfter (writeHeader h' (length out)) h' out)
+written-by h' h out out' r w e g n =
+    let is : writeAnswer w ≡ writeHeader h' (length out) = g .0 ∙ ap (λ (x : Header). writeHeader x (length out)) e in
+    (n ∙ ap writtenNumber is, g .1 ∙ λ i. outputAfter (is i) (e i) out)

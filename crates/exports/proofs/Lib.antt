@@ -1,0 +1,12 @@
+pub mod Answering
+pub mod AttributeCallLaws
+pub mod BenchLaws
+pub mod Exported
+pub mod ExportedRuns
+pub mod HeaderLaws
+pub mod LinkCallLaws
+pub mod MessageLaws
+pub mod ReadingBack
+pub mod Staying
+pub mod StringInside
+pub mod StringLaws

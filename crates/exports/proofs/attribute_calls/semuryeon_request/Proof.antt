@@ -1,0 +1,33 @@
+-- `exports::attribute_calls::semuryeon_request` meets its contract: the call of the rows that the words are. Assumes nothing.
+use borrow.Author.Needs.{needs}
+use Rattle.exports.proofs.attribute_calls.semuryeon_request.Statement.{statement}
+use Rattle.exports.proofs.attribute_calls.semuryeon_request.Tie as tie
+
+directory-in-requires : tie.Need-directory-in-requires
+directory-in-requires c κs = search needs
+
+request-in-requires : tie.Need-request-in-requires
+request-in-requires c κs = search needs
+
+told-requires : tie.Need-told-requires
+told-requires c κs = search needs
+
+same-length : tie.Need-same-length
+same-length c = search needs
+
+same-length-2 : tie.Need-same-length-2
+same-length-2 c = search needs
+
+returns : tie.Need-returns
+returns c = rw (← c .before .before .before .before .before .before .before .before .directory-in .ensures) (record { call = c .before .before .before .before .before .request-in .result; answered = c .before .before .before .before .before .request-in .ensures; is = c .told .ensures })
+
+pub semuryeon-request-spec : {M : Type 1} → statement M
+semuryeon-request-spec =
+    tie.close
+    (tie.spec
+    directory-in-requires
+    request-in-requires
+    told-requires
+    same-length
+    same-length-2
+    returns)

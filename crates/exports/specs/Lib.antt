@@ -1,0 +1,10 @@
+pub mod AttributeCalls
+pub mod BenchLine
+pub mod ExportedRuns
+pub mod Fragments
+pub mod Headers
+pub mod LinkCalls
+pub mod Messages
+pub mod Putting
+pub mod Strings
+pub mod Taken

@@ -1,0 +1,14 @@
+-- What is packed into an answer is taken out of it again. Assumes nothing.
+use mathlib.Core.Path.{_≡_}
+use Prim.Native.Nat.{ℕ, _<_, _^_}
+use native.Mathlib.Omega.{arith}
+use Rattle.words.specs.Answer.{answerNumber, numberIn, kindIn, firstIn, secondIn, TakenOut, UnpackingAnswer}
+
+pub unpacking-answer : UnpackingAnswer
+unfolding UnpackingAnswer answerNumber numberIn kindIn firstIn secondIn
+unpacking-answer number kind first second n k f s = record {
+  number-back = omega (arith, n);
+  kind-back = omega (arith, n, k);
+  first-back = omega (arith, n, k, f);
+  second-back = omega (arith, n, k, s);
+}

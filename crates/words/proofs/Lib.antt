@@ -1,0 +1,9 @@
+pub mod Answers
+pub mod ElementLaws
+pub mod ItemLaws
+pub mod LinkLaws
+pub mod RowLaws
+pub mod Stores
+pub mod TableLaws
+pub mod TableWords
+pub mod Words

@@ -1,0 +1,7 @@
+pub mod Answer
+pub mod ElementWords
+pub mod Items
+pub mod LinkWords
+pub mod RowWords
+pub mod TableWords
+pub mod Word

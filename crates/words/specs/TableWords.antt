@@ -1,0 +1,89 @@
+-- The table of slots as 41 words that a caller lends: the busy word, then LID, number, next counter, octets held and tick of each slot, in order. Words of
+-- another length are a table that is not sound (a busy word of all ones, which no sound table has), so that each call refuses it with 2 in 01's order.
+-- A number or a count of octets that has no room in its field becomes the largest, which no sound slot has.
+-- Assumes nothing.
+use Prim.Native.Nat.{ℕ, _+_, _-_, _^_, _≤_}
+use mathlib.Core.Path.{_≡_}
+use mathlib.Core.Bool.{true, false}
+use mathlib.Core.List.{List, [], _∷_, _++_}
+use lib.ListN.{length, getD, replicate}
+use lib.Seq.{sets}
+use lib.Dec.{eqb}
+use Rattle.refusals.specs.Check.{pick}
+use Rattle.slots.specs.declared.Slot.{Slot}
+use Rattle.slots.specs.declared.Table.{Table}
+use Rattle.slots.specs.Slots.{slotCount, emptyTable, isSound}
+use Rattle.words.specs.Word.{narrowTo}
+
+abbrev pub tableLength : ℕ
+tableLength = 41
+
+-- ---- packing
+
+abbrev pub slotWords : Slot → List ℕ
+slotWords slot = slot .lid ∷ slot .number ∷ slot .next ∷ narrowTo 32 (slot .held) ∷ slot .tick ∷ []
+
+unfoldable pub slotsWords : List Slot → List ℕ
+slotsWords [] = []
+slotsWords (slot ∷ slots) = slotWords slot ++ slotsWords slots
+
+unfoldable pub tableWords : Table → List ℕ
+tableWords table = table .busy ∷ slotsWords (table .slots)
+
+-- the words with a slot's from a place on
+unfoldable pub slotPut : List ℕ → ℕ → Slot → List ℕ
+slotPut words at slot = sets words at (slotWords slot)
+
+-- the words after the table is put into them: only where there are 41
+unfoldable pub tableAfter : Table → List ℕ → List ℕ
+tableAfter table words = pick (eqb (length words) tableLength) (tableWords table) words
+
+-- ---- unpacking
+
+-- the slot whose words begin at a place
+abbrev pub slotIn : List ℕ → ℕ → Slot
+slotIn words at = record {
+  lid = getD words at 0;
+  number = narrowTo 8 (getD words (at + 1) 0);
+  next = getD words (at + 2) 0;
+  held = getD words (at + 3) 0;
+  tick = getD words (at + 4) 0;
+}
+
+abbrev pub busyIn : List ℕ → ℕ
+busyIn words = pick (eqb (length words) tableLength) (getD words 0 0) (2 ^ 32 - 1)
+
+unfoldable pub tableIn : List ℕ → Table
+tableIn words = record {
+  busy = busyIn words;
+  slots =
+      slotIn words 1
+      ∷ slotIn words 6
+      ∷ slotIn words 11
+      ∷ slotIn words 16
+      ∷ slotIn words 21
+      ∷ slotIn words 26
+      ∷ slotIn words 31
+      ∷ slotIn words 36
+      ∷ [];
+}
+
+-- ---- laws (proofs/TableWords.antt proves each)
+
+-- unpacking what was packed gives it back: each sound table of eight slots
+unfoldable pub UnpackingPacked : Type 0
+UnpackingPacked = (table : Table) → length (table .slots) ≡ slotCount → isSound table ≡ true → tableIn (tableWords table) ≡ table
+
+-- so words of the right length hold the table that was put into them
+unfoldable pub UnpackingPut : Type 0
+UnpackingPut =
+    (table : Table) (words : List ℕ) → length (table .slots) ≡ slotCount → isSound table ≡ true → length words ≡ tableLength
+    → tableIn (tableAfter table words) ≡ table
+
+-- words of another length are no sound table
+unfoldable pub WrongLength : Type 0
+WrongLength = (words : List ℕ) → (length words ≡ tableLength → ⊥) → isSound (tableIn words) ≡ false
+
+-- words that are all zero are the empty table
+unfoldable pub FirstState : Type 0
+FirstState = tableIn (replicate 41 0) ≡ emptyTable

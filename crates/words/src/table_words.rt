@@ -1,0 +1,85 @@
+// The table of slots as 41 words: the busy word, then LID, number, next counter, octets held and tick of each slot.
+ghost use mathlib.Core.Path.{_≡_};
+ghost use Prim.Native.Nat.{_≤_};
+ghost use Rattle.words.specs.TableWords.{slotPut, slotIn, busyIn, tableIn, tableAfter};
+use crate::word::narrow;
+use crate::word::narrow_word;
+use crate::word::put;
+use crate::word::word;
+use slots::Slot;
+use slots::Table;
+
+pub const TABLE_WORDS: usize = 41;
+
+const SLOT_WORDS: usize = 5;
+// A busy word that no sound table has.
+const NOT_SOUND: u32 = 4294967295;
+
+fn slot_in(words: &[u32], at: usize) -> Slot
+    requires { ⌜ at ≤ 36 ⌝ }
+    ensures { λ r. ⌜ r ≡ slotIn (now (words .entry)) at ⌝ }
+{
+    Slot {
+        lid: word(words, at),
+        number: narrow(word(words, at + 1)),
+        next: word(words, at + 2),
+        held: word(words, at + 3) as usize,
+        tick: word(words, at + 4),
+    }
+}
+
+// The busy word; where there are not 41 words, one that no sound table has.
+fn busy_in(words: &[u32]) -> u32
+    ensures { λ r. ⌜ r ≡ busyIn (now (words .entry)) ⌝ }
+{
+    if words.len() != TABLE_WORDS {
+        return NOT_SOUND;
+    }
+    word(words, 0)
+}
+
+// The table that the words are; one that is not sound where there are not 41 of them.
+pub fn table_in(words: &[u32]) -> Table
+    ensures { λ r. ⌜ r ≡ tableIn (now (words .entry)) ⌝ }
+{
+    let busy = busy_in(words);
+    let slots = [
+        slot_in(words, 1),
+        slot_in(words, 6),
+        slot_in(words, 11),
+        slot_in(words, 16),
+        slot_in(words, 21),
+        slot_in(words, 26),
+        slot_in(words, 31),
+        slot_in(words, 36),
+    ];
+    Table { busy, slots }
+}
+
+// Puts a slot's words from place `at` on, where they fit.
+fn put_slot(words: &mut [u32], at: usize, slot: Slot)
+    requires { ⌜ at ≤ 36 ⌝ }
+    ensures { λ _. ⌜ now (words .exit) ≡ slotPut (now (words .entry)) at slot ⌝ }
+{
+    put(words, at, slot.lid);
+    put(words, at + 1, slot.number as u32);
+    put(words, at + 2, slot.next);
+    put(words, at + 3, narrow_word(slot.held as u64));
+    put(words, at + 4, slot.tick);
+}
+
+// Puts the table's words, where there are 41.
+pub fn put_table(table: Table, words: &mut [u32])
+    ensures { λ _. ⌜ now (words .exit) ≡ tableAfter table (now (words .entry)) ⌝ }
+{
+    if words.len() != TABLE_WORDS {
+        return;
+    }
+    put(words, 0, table.busy);
+    let mut i: usize = 0;
+    while i < 8 {
+        let slot = table.slots[i];
+        put_slot(words, 1 + SLOT_WORDS * i, slot);
+        i += 1;
+    }
+}
