@@ -1,0 +1,69 @@
+//! Reading, and reading and writing again.
+
+use std::hint::black_box;
+
+use second::message::Lists;
+use second::{reading, writing};
+use semuryeon::{raw, OUTPUT_OCTETS};
+
+use crate::sizes::{kinds, FAMILIES, SIZES};
+use crate::table::Row;
+use crate::timing::{best, contender, copy, Effort};
+
+fn reading_row(name: &str, octets: &[u8], effort: Effort) -> Row {
+    assert_eq!(raw::check(octets).refusal(), 0);
+    let (mut left, mut lists) = (Lists::default(), Lists::default());
+    let contenders = [
+        contender(|| raw::check(black_box(octets))),
+        contender(|| reading::read(black_box(octets), black_box(&mut left))),
+        contender(|| {
+            lists = Lists::default();
+            reading::read(black_box(octets), black_box(&mut lists))
+        }),
+        copy(octets),
+    ];
+    let [proved, plain, cleared, copy] = best(contenders, effort);
+    Row { name: name.into(), octets: octets.len(), proved, plain, cleared: Some(cleared), copy }
+}
+
+fn rewriting_row(name: &str, octets: &[u8], effort: Effort) -> Row {
+    let again = |lists: &mut Lists, output: &mut [u8]| {
+        let message = reading::read(black_box(octets), lists)?;
+        writing::write(&message, lists, black_box(octets), output)
+    };
+    let mut outputs = [[0; OUTPUT_OCTETS]; 3];
+    let [first, second, third] = &mut outputs;
+    let (mut left, mut lists) = (Lists::default(), Lists::default());
+    assert_eq!(raw::rewrite(octets, first).first(), octets.len());
+    let contenders = [
+        contender(|| raw::rewrite(black_box(octets), black_box(first))),
+        contender(|| again(black_box(&mut left), black_box(second))),
+        contender(|| {
+            lists = Lists::default();
+            again(black_box(&mut lists), black_box(third))
+        }),
+        copy(octets),
+    ];
+    let [proved, plain, cleared, copy] = best(contenders, effort);
+    Row { name: name.into(), octets: octets.len(), proved, plain, cleared: Some(cleared), copy }
+}
+
+pub fn by_kind(effort: Effort) -> Vec<Row> {
+    kinds().iter().map(|(name, octets)| reading_row(name, octets, effort)).collect()
+}
+
+fn families(row: impl Fn(&str, &[u8]) -> Row) -> Vec<Row> {
+    let mut rows = Vec::new();
+    for (name, message) in FAMILIES {
+        rows.extend(SIZES.map(|size| row(name, &message(size))));
+    }
+    rows
+}
+
+pub fn by_size(effort: Effort) -> Vec<Row> {
+    families(|name, octets| reading_row(name, octets, effort))
+}
+
+pub fn rewriting(effort: Effort) -> Vec<Row> {
+    families(|name, octets| rewriting_row(name, octets, effort))
+}
