@@ -6,14 +6,15 @@ ghost use Rattle.apdu_reading.specs.Cursor.{cursor, judgedBy, pieceOf, s
 
 // at: the next bit; begun: where the component begins that was read last; room: how many attribute rows may still be announced; fault: 0, or the
 // refusal's number, with its position; value: what the bits read last say; start: where the string or list read last starts.
+// In this order no two neighbours are only copied: two that are get copied as one block, which waits for both to be stored.
 pub struct Cursor {
     pub at: usize,
+    pub value: u64,
     pub begun: usize,
+    pub start: usize,
     pub room: u64,
     pub fault: u8,
     pub position: usize,
-    pub value: u64,
-    pub start: usize,
 }
 
 // The cursor with a fault: nothing is said behind it.
