@@ -12,6 +12,7 @@ use crate::cursor::judged;
 use crate::cursor::marked;
 use crate::cursor::piece;
 use crate::cursor::spend;
+use crate::cursor::whole;
 use apdu::known;
 
 // A message's choice.
@@ -28,7 +29,7 @@ pub(crate) fn integer(s: &[u8], c: Cursor) -> Cursor
     requires { ⌜ length (now s) ≤ 512 ⌝ }
     ensures { λ r. ⌜ (r ≡ component (now (s .entry)) integer c) × (r .value < 128) ⌝ }
 {
-    let p = piece(s, 8, true, c);
+    let p = whole(s, c);
     judged(c, refusals::EXTENSION_BIT, 128 <= p.value, p)
 }
 
@@ -71,7 +72,7 @@ pub(crate) fn entry_octet(s: &[u8], c: Cursor) -> Cursor
     requires { ⌜ length (now s) ≤ 512 ⌝ }
     ensures { λ r. ⌜ (r ≡ component (now (s .entry)) entry c) × (r .value < 256) ⌝ }
 {
-    let p = piece(s, 8, true, c);
+    let p = whole(s, c);
     judged(c, refusals::EXTENSION_BIT, p.value / 32 % 2 == 1, p)
 }
 

@@ -1,5 +1,6 @@
 // The cursor: a place in the message's bits, by value. Once a fault is set it stays as it is, so that a message is read straight through.
 ghost use mathlib.Core.Path.{_≡_};
+ghost use mathlib.Core.Bool.{true};
 ghost use Prim.Native.Nat.{_+_, _^_, _*_, _<_, _≤_};
 ghost use lib.ListN.{length};
 ghost use Rattle.apdu_reading.specs.Cursor.{cursor, judgedBy, pieceOf, spent, markedAt};
@@ -82,6 +83,27 @@ pub(crate) fn piece(s: &[u8], width: usize, begins: bool, c: Cursor) -> Cursor
         return moved(c, width, at, value);
     }
     moved(c, width, c.begun, value)
+}
+
+// The cursor behind the next eight bits, of a component that begins here: they lie in one octet or in two.
+pub(crate) fn whole(s: &[u8], c: Cursor) -> Cursor
+    requires { ⌜ length (now s) ≤ 512 ⌝ }
+    ensures { λ r. ⌜ (r ≡ pieceOf (now (s .entry)) 8 true c) × (r .value < 256) ⌝ }
+{
+    let at = c.at;
+    if c.fault != 0 {
+        return faulty(c, c.fault, c.position);
+    }
+    let i = at / 8;
+    let skip = at % 8;
+    if s.len() <= i + (skip + 7) / 8 {
+        return faulty(c, refusals::CUT_SHORT, s.len());
+    }
+    if skip == 0 {
+        return moved(c, 8, at, s[i] as u64);
+    }
+    let two = (s[i] as u64) * 256 + (s[i + 1] as u64);
+    moved(c, 8, at, (two >> (8 - skip)) % 256)
 }
 
 // The cursor behind a count of rows: that many fewer may be announced.

@@ -11,8 +11,8 @@ use lib.Seq.{length-take-le}
 use Rattle.bits.specs.Bits.{Octets, bits, digits, field, octets, putBits, readField, fieldFits, writeField}
 use Rattle.bits.specs.Window.{bytes}
 use Rattle.bits.specs.Strings.{isInside, stringAt, sameOctets, sameString}
-use Rattle.bits.proofs.Laws.{below-nil, below-cons, below-append, below-take, below-drop, field-octet, length-bits, bits-append, take-bits, drop-bits, octets-bits}
-use Rattle.bits.proofs.Window.{bits-bytes, left-all, left-less, left-none}
+use Rattle.bits.proofs.Laws.{below-nil, below-cons, below-append, below-take, below-drop, field-octet, field-sub, length-bits, bits-append, take-bits, drop-bits, octets-bits}
+use Rattle.bits.proofs.Window.{bits-bytes, window-more, left-all, left-less, left-none}
 use Rattle.bits.proofs.Outcomes.{read-narrow, write-whole}
 use Rattle.bits.proofs.Strings.{Copied, Written, length-string, string-small, string-snoc}
 
@@ -43,6 +43,17 @@ put-one out first n v e h =
     let i : first ≡ first + (n - 1) = omega arith in
     ap (λ (j : ℕ). set out j (v % 256)) i
     ∙ left-none out first n v (set out (first + (n - 1)) (v % 256)) (n - 1) (v / 256) (left-less out first n v out n v (left-all out first n v) (omega arith) h) (omega arith)
+
+-- eight bits are read out of two octets
+pub read-two : (s : List ℕ) (at : ℕ) {a b v : ℕ} → a ≡ getD s (at / 8) 0 → a < 256 → b ≡ getD s (at / 8 + 1) 0 → b < 256
+    → v ≡ (a * 256 + b) / 2 ^ (8 - at % 8) % 2 ^ 8 → v ≡ readField s at 8
+read-two s at e f g h k =
+    let first = at / 8 in
+    let skip = at % 8 in
+    let n : 8 * (1 + 1) ≡ skip + 8 + (8 - skip) = omega arith in
+    read-narrow s at 8 (omega arith)
+    (k ∙ ap (λ (x : ℕ). x / 2 ^ (8 - skip) % 2 ^ 8) (window-more s first 1 (window-one s first 1 refl e f .0) g h ∙ ap (field s (8 * first)) n)
+    ∙ field-sub s (8 * first) skip 8 (8 - skip))
 
 -- ---- a string
 
