@@ -8,10 +8,11 @@ use native.Mathlib.Omega.{arith}
 use lib.ListN.{length, getD, drop}
 use lib.Dec.{ltb, leb, eqb}
 use lib.Pow.{pow-pos}
-use borrow.Author.Tests.{eq-eqb, ne-eqb, le-ltb, lt-ltb, eqb-true, eqb-false, ltb-true, ltb-false}
+use borrow.Author.Tests.{eq-eqb, ne-eqb, le-ltb, lt-ltb, eqb-true, eqb-false, ltb-true, ltb-false, leb-true, leb-false, not-true, not-false}
 use Rattle.refusals.specs.Check.{pick, Check, check, firstOf}
 use Rattle.refusals.proofs.Tests.{by-test, by-cases}
 use Rattle.bits.specs.Bits.{bits, readField}
+use Rattle.bits.specs.Strings.{isInside}
 use Rattle.bits.proofs.Laws.{length-bits, field-lt}
 use Rattle.apdu_format.specs.Limits.{mostCounted, deepest}
 use Rattle.apdu_format.specs.Component.{Component, choice, lead, integer, fixed, stringForm, stringLength, stringOctets, idCount, listStart, rowCount, entryCount, entry, container, class}
@@ -19,7 +20,7 @@ use Rattle.apdu_format.specs.Table.{table}
 use Rattle.apdu_format.specs.Rules.{shape, begins, isSet, after, knownKind, checksOf, announced}
 use Rattle.apdu_format.specs.Reading.{Value, need, numbersOf, valueAt, octetOf, beginning, faultOf, positionOf, judged, step}
 use Rattle.apdu_reading.specs.declared.cursor.Cursor.{Cursor}
-use Rattle.apdu_reading.specs.Cursor.{cursor, stateOf, component, judgedBy, pieceOf}
+use Rattle.apdu_reading.specs.Cursor.{cursor, stateOf, component, judgedBy, pieceOf, markedAt, skipped}
 
 -- ---- a piece
 
@@ -235,3 +236,23 @@ module _ (s : List ℕ) (w : ℕ) (b : Bool) (c : Cursor) {r : Cursor} where
 
   pub by-goes-on : {v : ℕ} → c .fault ≡ 0 → b ≡ false → v ≡ readField s (c .at) w → r ≡ cursor (c .at + w) (c .begun) (c .room) 0 0 v 0 → c .at + w ≤ 8 * length s → (r ≡ pieceOf s w b c) × (r .value < 2 ^ w)
   by-goes-on h t f e k = (e ∙ piece-goes-on s w b c h t f k, rw e (value-lt s (c .at) w f))
+
+-- ---- what `skip` ensures
+
+pub all-there : (octets start n : ℕ) {b : Bool} → b ≡ isInside octets start n → not b ≡ false → start + 8 * n ≤ 8 * octets
+unfolding isInside
+all-there octets start n {b} e h = leb-true _ _ (sym e ∙ not-false b h)
+
+module _ (s : List ℕ) (c : Cursor) {r : Cursor} where
+  pub skip-stopped : (c .fault ≡ 0 → ⊥) → r ≡ markedAt c (c .value) (c .at) → r ≡ skipped s c
+  unfolding markedAt
+  skip-stopped h e = rw (← piece-stopped s (8 * c .value) false c h) e
+
+  module _ {b : Bool} (i : b ≡ isInside (length s) (c .at) (c .value)) {d : Cursor} (e : r ≡ markedAt d (c .value) (c .at)) where
+    pub skip-cut : c .fault ≡ 0 → not b ≡ true → d ≡ cursor (c .at) (c .begun) (c .room) 13 (length s) 0 0 → r ≡ skipped s c
+    unfolding isInside
+    skip-cut h t f = rw (← piece-cut s (8 * c .value) false c h (leb-false _ _ (sym i ∙ not-true b t)), ← f) e
+
+    pub skip-past : c .fault ≡ 0 → not b ≡ false → d ≡ cursor (c .at + 8 * c .value) (c .begun) (c .room) 0 0 (c .value) 0 → r ≡ skipped s c
+    unfolding markedAt
+    skip-past h t f = rw (piece-read s (8 * c .value) false c h (all-there _ _ _ i t)) (rw f at e)

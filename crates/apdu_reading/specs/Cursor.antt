@@ -3,7 +3,7 @@
 use Prim.Native.Nat.{ℕ, _+_, _-_, _*_, _/_}
 use mathlib.Core.Path.{_≡_}
 use mathlib.Core.List.{List, [], _++_}
-use mathlib.Core.Bool.{Bool, true}
+use mathlib.Core.Bool.{Bool, true, false}
 use lib.ListN.{length}
 use lib.Dec.{ltb, eqb}
 use Rattle.refusals.specs.Check.{pick}
@@ -55,3 +55,7 @@ spent c = pick (eqb (c .fault) 0) (pick (ltb (c .room) (c .value)) c (cursor (c 
 
 unfoldable pub markedAt : Cursor → ℕ → ℕ → Cursor
 markedAt c value start = cursor (c .at) (c .begun) (c .room) (c .fault) (c .position) value start
+
+-- over so many octets as the value says
+abbrev pub skipped : List ℕ → Cursor → Cursor
+skipped s c = markedAt (pieceOf s (8 * c .value) false c) (c .value) (c .at)

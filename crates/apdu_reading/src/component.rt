@@ -11,6 +11,7 @@ use crate::cursor::Cursor;
 use crate::cursor::judged;
 use crate::cursor::marked;
 use crate::cursor::piece;
+use crate::cursor::skip;
 use crate::cursor::spend;
 use crate::cursor::whole;
 use apdu::known;
@@ -83,9 +84,7 @@ pub(crate) fn string(s: &[u8], c: Cursor) -> Cursor
 {
     let p = piece(s, 1, true, c);
     let form = judged(c, refusals::EXTENSION_BIT, p.value == 1, p);
-    let length = piece(s, 7, false, form);
-    let octets = piece(s, 8 * (length.value as usize), false, length);
-    marked(octets, length.value, length.at)
+    skip(s, piece(s, 7, false, form))
 }
 
 // A list of ids: their number is the value afterwards, and start the place of the first.

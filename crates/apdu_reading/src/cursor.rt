@@ -1,9 +1,9 @@
 // The cursor: a place in the message's bits, by value. Once a fault is set it stays as it is, so that a message is read straight through.
 ghost use mathlib.Core.Path.{_≡_};
 ghost use mathlib.Core.Bool.{true};
-ghost use Prim.Native.Nat.{_+_, _^_, _*_, _<_, _≤_};
+ghost use Prim.Native.Nat.{_+_, _^_, _<_, _≤_};
 ghost use lib.ListN.{length};
-ghost use Rattle.apdu_reading.specs.Cursor.{cursor, judgedBy, pieceOf, spent, markedAt};
+ghost use Rattle.apdu_reading.specs.Cursor.{cursor, judgedBy, pieceOf, spent, markedAt, skipped};
 
 // at: the next bit; begun: where the component begins that was read last; room: how many attribute rows may still be announced; fault: 0, or the
 // refusal's number, with its position; value: what the bits read last say; start: where the string or list read last starts.
@@ -140,4 +140,19 @@ pub(crate) fn marked(c: Cursor, value: u64, start: usize) -> Cursor
         value,
         start,
     }
+}
+
+// The cursor behind the octets of a string, of which its value says how many: they start here, and none is read. 13 if they are not all there.
+pub(crate) fn skip(s: &[u8], c: Cursor) -> Cursor
+    requires { ⌜ length (now s) ≤ 512 ⌝ }
+    ensures { λ r. ⌜ r ≡ skipped (now (s .entry)) c ⌝ }
+{
+    let n = c.value;
+    if c.fault != 0 {
+        return marked(c, n, c.at);
+    }
+    if !bits::inside(s.len(), c.at, n as usize) {
+        return marked(faulty(c, refusals::CUT_SHORT, s.len()), n, c.at);
+    }
+    marked(moved(c, 8 * (n as usize), c.begun, n), n, c.at)
 }

@@ -1,4 +1,4 @@
--- `string` reads the extension bit, the length and the octets one after the other.
+-- `string` reads the extension bit and the length, and passes over the octets.
 -- Assumes nothing.
 use mathlib.Core.Path.{_∙_}
 use Rattle.apdu_reading.proofs.Components.{form-is, length-is, octets-is}
@@ -16,26 +16,13 @@ judged-requires c κs = tt
 piece-requires-2 : tie.Need-piece-requires-2
 piece-requires-2 c κs = search needs
 
-mul-piece : tie.Need-mul-piece
-mul-piece c = search needs
-
-piece-requires-3 : tie.Need-piece-requires-3
-piece-requires-3 c κs = search needs
-
-marked-requires : tie.Need-marked-requires
-marked-requires c κs = tt
+skip-requires : tie.Need-skip-requires
+skip-requires c κs = search needs
 
 returns : tie.Need-returns
-returns c = string-by _ _ (c .before .before .before .judged .ensures ∙ form-is _ _ (c .before .before .before .before .before .piece .ensures .0)) (c .before .before .piece2 .ensures .0 ∙ length-is _ _) (c .before .piece3 .ensures .0 ∙ octets-is _ _ _) (c .marked .ensures) (c .before .before .piece2 .ensures .1)
+returns c =
+    string-by _ _ (c .before .before .judged .ensures ∙ form-is _ _ (c .before .before .before .before .piece .ensures .0)) (c .before .piece2 .ensures .0 ∙ length-is _ _)
+    (octets-is _ _ _) (c .skip .ensures) (c .before .piece2 .ensures .1)
 
 pub string-spec : {M : Type 1} → statement M
-string-spec =
-    tie.close
-    (tie.spec
-    piece-requires
-    judged-requires
-    piece-requires-2
-    mul-piece
-    piece-requires-3
-    marked-requires
-    returns)
+string-spec = tie.close (tie.spec piece-requires judged-requires piece-requires-2 skip-requires returns)
