@@ -4,7 +4,6 @@ use mathlib.Core.Path.{refl}
 use Prim.Native.Nat.{_+_, _/_}
 use Rattle.bits.proofs.Aligned.{read-octet, read-two}
 use Rattle.apdu_reading.proofs.Pieces.{by-stopped, by-cut, by-begins}
-use borrow.Author.Needs.{needs}
 use native.Mathlib.Omega.{arith}
 use Rattle.apdu_reading.proofs.cursor.whole.Statement.{statement}
 use Rattle.apdu_reading.proofs.cursor.whole.Tie as tie
@@ -16,10 +15,10 @@ returns : tie.Need-returns
 returns c = by-stopped _ _ _ _ (c .before .if1 .taken) (c .faulty .ensures)
 
 add-if2 : tie.Need-add-if2
-add-if2 c = search needs
+add-if2 c = omega arith
 
 add-if2-2 : tie.Need-add-if2-2
-add-if2-2 c = search needs
+add-if2-2 c = omega arith
 
 faulty-requires-2 : tie.Need-faulty-requires-2
 faulty-requires-2 c κs = tt
@@ -28,13 +27,13 @@ returns-2 : tie.Need-returns-2
 returns-2 c = by-cut _ _ _ _ (c .before .before .if1 .left) (c .faulty2 .ensures) (omega arith)
 
 shared-slice-read-moved : tie.Need-shared-slice-read-moved
-shared-slice-read-moved c = search needs
+shared-slice-read-moved c = omega arith
 
 cast-moved : tie.Need-cast-moved
 cast-moved c = omega (arith, c .shared-slice-known2 .given (c .before .before .before .before .before .before .args .c .at / 8))
 
 moved-requires : tie.Need-moved-requires
-moved-requires c κs = search needs
+moved-requires c κs = omega arith
 
 returns-3 : tie.Need-returns-3
 returns-3 c =
@@ -43,7 +42,7 @@ returns-3 c =
     (read-octet _ _ 8 refl (c .before .before .if3 .taken) refl (c .before .shared-slice-known2 .given i .fits)) (c .moved .ensures) (omega arith)
 
 shared-slice-read-two : tie.Need-shared-slice-read-two
-shared-slice-read-two c = search needs
+shared-slice-read-two c = omega arith
 
 cast-two : tie.Need-cast-two
 cast-two c = omega (arith, c .shared-slice-known3 .given (c .before .before .before .before .before .before .args .c .at / 8))
@@ -52,10 +51,10 @@ mul-two : tie.Need-mul-two
 mul-two c = omega (arith, c .shared-slice-known3 .given (c .before .before .before .before .before .before .args .c .at / 8))
 
 add-two : tie.Need-add-two
-add-two c = search needs
+add-two c = omega arith
 
 shared-slice-read-two-2 : tie.Need-shared-slice-read-two-2
-shared-slice-read-two-2 c = search needs
+shared-slice-read-two-2 c = omega arith
 
 cast-two-2 : tie.Need-cast-two-2
 cast-two-2 c = omega (arith, c .shared-slice-known4 .given (c .before .before .before .before .before .before .before .args .c .at / 8 + 1))
@@ -66,13 +65,13 @@ add-two-2 c =
     omega (arith, c .before .shared-slice-known3 .given i, c .shared-slice-known4 .given (i + 1))
 
 sub-moved : tie.Need-sub-moved
-sub-moved c = search needs
+sub-moved c = omega arith
 
 shr-moved : tie.Need-shr-moved
-shr-moved c = search needs
+shr-moved c = omega arith
 
 moved-requires-2 : tie.Need-moved-requires-2
-moved-requires-2 c κs = search needs
+moved-requires-2 c κs = omega arith
 
 returns-4 : tie.Need-returns-4
 returns-4 c =
