@@ -1,19 +1,16 @@
--- Entries and rows as they are stored, and what is read of the messages of the link behind their choice.
+-- Entries and rows as they are stored, and application lists of them.
 -- Assumes nothing.
-use Prim.Native.Nat.{ℕ, _+_, _≤_}
+use Prim.Native.Nat.{ℕ, zero, suc, _+_, _≤_}
 use mathlib.Core.Path.{_≡_}
 use mathlib.Core.List.{List, [], _∷_}
 use mathlib.Core.Bool.{Bool, true, false}
 use lib.ListN.{length, getD, take}
-use Rattle.apdu_format.specs.Component.{entryCount, entry, lead}
+use Rattle.apdu_format.specs.Component.{entryCount, entry}
 use Rattle.apdu_format.specs.Rules.{when, times}
 use Rattle.apdu.specs.declared.lists.Entry.{Entry}
-use Rattle.apdu.specs.declared.records.Bst.{Bst}
-use Rattle.apdu.specs.declared.records.Vst.{Vst}
-use Rattle.apdu.specs.Values.{num, if, entriesValues, rowsOf, emptyEntry, bstValues, vstValues}
-use Rattle.apdu.specs.Tidy.{EntriesTidy, entryTidy, ListsTidy, bstTidy, vstTidy}
-use Rattle.apdu.specs.Sound.{entriesSound, bstSound, vstSound}
-use Rattle.apdu_reading.specs.declared.cursor.Cursor.{Cursor}
+use Rattle.apdu.specs.Values.{num, if, entriesValues, rowsOf, emptyEntry}
+use Rattle.apdu.specs.Tidy.{EntriesTidy, entryTidy}
+use Rattle.apdu.specs.Sound.{entriesSound}
 use Rattle.apdu_reading.specs.declared.rows.Rows.{Rows}
 use Rattle.apdu_reading.specs.Cursor.{Reads}
 use Rattle.apdu_reading.specs.Lists.{between}
@@ -59,24 +56,14 @@ pub record ListMaybe (s : List ℕ) (p : Bool) (base : ℕ) (a : Applications) (
   pub small : r .count ≤ 16
   pub absent : p ≡ false → r .count ≡ 0
 
--- ---- messages
-
-pub record BstOf : Type 0 where
-  pub cursor : Cursor
-  pub message : Bst
+-- both lists, of which the second is there if p says so
+pub record Both (s : List ℕ) (p : Bool) (a : Applications) (mandatory others : ℕ) (r : Applications) : Type 0 where
   pub list : Applications
+  pub first : ListMaybe s true 0 a (record { count = mandatory; list = list })
+  pub second : ListMaybe s p mandatory list (record { count = others; list = r })
 
-pub record VstOf : Type 0 where
-  pub cursor : Cursor
-  pub message : Vst
-  pub list : Applications
-
-pub record BstRead (s : List ℕ) (c : Cursor) (r : BstOf) : Type 0 where
-  pub reads : Reads s (lead 8 ∷ []) c (r .cursor) (bstValues s (r .message) (r .list .entries) (r .list .rows .rows))
-  pub sound : r .cursor .fault ≡ 0 → bstSound (length s) (r .message) (r .list .entries) (r .list .rows .rows) ≡ true
-  pub tidy : r .cursor .fault ≡ 0 → bstTidy (r .message) × ListsTidy (r .message .mandatory + r .message .others) (r .list .entries) (r .list .rows .rows)
-
-pub record VstRead (s : List ℕ) (c : Cursor) (r : VstOf) : Type 0 where
-  pub reads : Reads s (lead 9 ∷ []) c (r .cursor) (vstValues s (r .message) (r .list .entries) (r .list .rows .rows))
-  pub sound : r .cursor .fault ≡ 0 → vstSound (length s) (r .message) (r .list .entries) (r .list .rows .rows) ≡ true
-  pub tidy : r .cursor .fault ≡ 0 → vstTidy (r .message) × ListsTidy (r .message .applications) (r .list .entries) (r .list .rows .rows)
+-- what is read after so many rounds: nothing, the first list, both
+unfoldable pub Upto : List ℕ → Bool → Applications → ℕ → ℕ → ℕ → Applications → Type 0
+Upto s p a zero m o r = (m + o ≡ 0) × StoreReady 0 r × (r ≡ a)
+Upto s p a (suc zero) m o r = (m ≡ 0) × ListMaybe s true 0 a (record { count = o; list = r })
+Upto s p a (suc (suc k)) m o r = Both s p a m o r
