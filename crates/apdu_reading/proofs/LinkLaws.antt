@@ -130,32 +130,50 @@ module _ (s : List ℕ) (c : Cursor) (h : Chosen s c) where
   unfolding layoutOf sum
   vst-lead e = e ∙ lead-is s c 9 4 refl
 
-  module _ {l : Cursor} (k : l ≡ pieceOf s 44 false c) {time profile : Cursor} (q : time ≡ pieceOf s 32 true l) (i : (profile ≡ component s integer time) × (profile .value < 128))
+  module _ {l : Cursor} (k : l ≡ pieceOf s 44 false c) {time profile : Cursor} (q : time ≡ pieceOf s 32 true l)
+      (i : (profile ≡ component s integer time) × (profile .value < 128))
       (x : Bool) {y z : ℕ} (fx : bitOf x ≡ field s 4 1) (fy : y ≡ readField s 5 16) (fz : z ≡ readField s 21 27) where
     bst-room : profile .room ≡ 32
     unfolding announced
     bst-room = integer-room s time (i .0) ∙ room-of s (fixed 4) l (λ fs. refl) (four-octets s l q) ∙ lead-room s c b 8 (bst-lead k)
 
-    bst-opens : c .value ≡ 8 → {r : Cursor} {vs : List Value} → Reads s (entryCount ∷ (when x (entryCount ∷ []) ++ (idCount ∷ []))) profile r vs
+    bst-opens : c .value ≡ 8 → {r : Cursor} {vs : List Value}
+        → Reads s (entryCount ∷ (when x (entryCount ∷ []) ++ (idCount ∷ []))) profile r vs
         → Reads s (choice ∷ []) first r (fields (8 ∷ []) ∷ fields (bitOf x ∷ y ∷ z ∷ []) ∷ fields (time .value ∷ []) ∷ num (profile .value) ∷ vs)
     unfolding layoutOf present
     bst-opens e p =
         chosen s c h 8 e
-        (lead-in s c b 8 (bitOf x ∷ y ∷ z ∷ []) (bst-lead k) (bst-saw (bitOf x) y z fx (narrow s 5 16 (omega arith) fy) (narrow s 21 27 (omega arith) fz))
+        (lead-in s c b 8 (bitOf x ∷ y ∷ z ∷ []) (bst-lead k)
+        (bst-saw (bitOf x) y z fx (narrow s 5 16 (omega arith) fy) (narrow s 21 27 (omega arith) fz))
         (rw (set-bit x) (then (fixed-reads s 4 l (omega arith) (four-octets s l q)) (then (integer-reads s time (i .0)) p))))
 
     pub bst-front : c .value ≡ 8
-        → FrontRead s (record { cursor = profile; choice = 8; «has_others» = x; fill = 0; manufacturer = y; individual = z; time = time .value; profile = profile .value })
+        → FrontRead s
+        (record {
+          cursor = profile;
+          choice = 8;
+          «has_others» = x;
+          fill = 0;
+          manufacturer = y;
+          individual = z;
+          time = time .value;
+          profile = profile .value;
+        })
     bst-front e = record { room = bst-room; bst = λ w. bst-opens e; vst = λ n. absurd (n refl); only = λ n. absurd (n refl) }
 
-  module _ {l : Cursor} (k : l ≡ pieceOf s 4 false c) {profile : Cursor} (i : (profile ≡ component s integer l) × (profile .value < 128)) {x : ℕ} (fx : x ≡ readField s 4 4) where
+  module _ {l : Cursor} (k : l ≡ pieceOf s 4 false c) {profile : Cursor} (i : (profile ≡ component s integer l) × (profile .value < 128))
+      {x : ℕ} (fx : x ≡ readField s 4 4) where
     vst-opens : c .value ≡ 9 → {r : Cursor} {vs : List Value} → Reads s (entryCount ∷ class ∷ []) profile r vs
         → Reads s (choice ∷ []) first r (fields (9 ∷ []) ∷ fields (x ∷ []) ∷ num (profile .value) ∷ vs)
     unfolding layoutOf present
-    vst-opens e p = chosen s c h 9 e (lead-in s c b 9 (x ∷ []) (vst-lead k) (vst-saw x (narrow s 4 4 (omega arith) fx)) (then (integer-reads s l (i .0)) p))
+    vst-opens e p =
+        chosen s c h 9 e
+        (lead-in s c b 9 (x ∷ []) (vst-lead k) (vst-saw x (narrow s 4 4 (omega arith) fx)) (then (integer-reads s l (i .0)) p))
 
     pub vst-front : 8 ≤ c .value → (c .value ≡ 8 → ⊥)
-        → FrontRead s (record { cursor = profile; choice = 9; «has_others» = false; fill = x; manufacturer = 0; individual = 0; time = 0; profile = profile .value })
+        → FrontRead s
+        (record
+        { cursor = profile; choice = 9; «has_others» = false; fill = x; manufacturer = 0; individual = 0; time = 0; profile = profile .value })
     vst-front e n =
         record {
           room = integer-room s l (i .0) ∙ lead-room s c b 9 (vst-lead k);
@@ -203,8 +221,15 @@ module _ (s : List ℕ) (f : LinkFront) (opened : FrontRead s f) (m o : ℕ) (c 
         cursor = d .cursor;
         message =
             kind.Vst
-            (record
-            { fill = f .fill; profile = f .profile; applications = m; class = d .class; maker = d .maker; «has_status» = d .«has_status»; status = d .status });
+            (record {
+              fill = f .fill;
+              profile = f .profile;
+              applications = m;
+              class = d .class;
+              maker = d .maker;
+              «has_status» = d .«has_status»;
+              status = d .status;
+            });
       })
   unfolding valuesOf vstValues messageTidy sound vstSound
   vst-end n {d} q =

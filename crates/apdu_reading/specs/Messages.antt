@@ -47,7 +47,8 @@ pub record MessageRead (s : List ℕ) (r : Cursor) (m : Message) (l : Lists) : T
 
 pub record FrontRead (s : List ℕ) (f : LinkFront) : Type 0 where
   pub room : f .cursor .room ≡ 32
-  pub bst : f .choice ≡ 8 → {r : Cursor} {vs : List Value} → Reads s (entryCount ∷ (when (f .«has_others») (entryCount ∷ []) ++ (idCount ∷ []))) (f .cursor) r vs
+  pub bst : f .choice ≡ 8 → {r : Cursor} {vs : List Value}
+      → Reads s (entryCount ∷ (when (f .«has_others») (entryCount ∷ []) ++ (idCount ∷ []))) (f .cursor) r vs
       → Reads s (choice ∷ []) first r
       (fields (8 ∷ []) ∷ fields (bitOf (f .«has_others») ∷ f .manufacturer ∷ f .individual ∷ []) ∷ fields (f .time ∷ []) ∷ num (f .profile) ∷ vs)
   pub vst : (f .choice ≡ 8 → ⊥) → {r : Cursor} {vs : List Value} → Reads s (entryCount ∷ class ∷ []) (f .cursor) r vs
@@ -56,7 +57,8 @@ pub record FrontRead (s : List ℕ) (f : LinkFront) : Type 0 where
 
 -- whatever the entries and their rows are, with them the message is read
 pub record EndRead (s : List ℕ) (f : LinkFront) (mandatory others : ℕ) (c : Cursor) (r : LinkEnd) : Type 0 where
-  pub whole : {es : List Entry} {rs : List Row} → ListsWhole s (f .«has_others») (f .cursor) (record { cursor = c; mandatory = mandatory; others = others; entries = es; rows = rs })
+  pub whole : {es : List Entry} {rs : List Row}
+      → ListsWhole s (f .«has_others») (f .cursor) (record { cursor = c; mandatory = mandatory; others = others; entries = es; rows = rs })
       → MessageRead s (r .cursor) (r .message) (record { entries = es; rows = rs })
 
 -- ---- services: a message up to its rows, and the message once they and the number behind them are read

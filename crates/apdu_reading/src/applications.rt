@@ -1,7 +1,5 @@
 // Application lists: entries, each with the rows of its parameter.
 ghost use mathlib.Core.Path.{_≡_};
-ghost use mathlib.Core.List.{[], _∷_};
-ghost use mathlib.Core.Bool.{true, false};
 ghost use Prim.Native.Nat.{_≤_};
 ghost use lib.ListN.{length};
 ghost use Rattle.apdu_reading.specs.Applications.{EntryOpens, Open, EntryWhole, CountMaybe, ListsWhole};
