@@ -16,20 +16,17 @@ use Rattle.apdu_format.specs.Reading.{Value, fields, numbersOf, sum, need, fiel
 use Rattle.apdu_format.proofs.Runs.{runs-one}
 use Rattle.apdu.specs.declared.lists.Row.{Row}
 use Rattle.apdu.specs.declared.lists.Entry.{Entry}
-use Rattle.apdu.specs.declared.records.Message.the-variants as kind
-use Rattle.apdu.specs.Values.{valuesOf, emptyRow, emptyEntry}
-use Rattle.apdu.specs.Tidy.{messageTidy, EntriesTidy, RowsTidy}
-use Rattle.apdu.specs.Sound.{sound}
+use Rattle.apdu.specs.Values.{emptyRow, emptyEntry}
+use Rattle.apdu.specs.Tidy.{EntriesTidy, RowsTidy}
 use Rattle.apdu_reading.specs.declared.cursor.Cursor.{Cursor}
 use Rattle.apdu_reading.specs.Cursor.{cursor, stateOf, Reads}
-use Rattle.apdu_reading.specs.Messages.{Begun, MessageRead}
-use Rattle.apdu_reading.proofs.Stores.{BstOf, VstOf, BstRead, VstRead}
+use Rattle.apdu_reading.specs.Messages.{Begun}
 use Rattle.apdu_reading.specs.Answers.{first, Chosen}
 use Rattle.apdu_reading.proofs.Pieces.{sees, Good, good, fine}
 use Rattle.apdu_reading.proofs.Chains.{still, enter}
 use Rattle.apdu_reading.proofs.Strings.{fault-of, piece-number}
 use Rattle.apdu_reading.proofs.Boxes.{empty}
-use Rattle.apdu_reading.proofs.LinkLaws.{empty-entry}
+use Rattle.apdu_reading.proofs.ListLaws.{empty-entry}
 
 module _ (s : List ℕ) (c : Cursor) (h : Chosen s c) where
   choice-good : Good s choice first
@@ -75,19 +72,6 @@ no-entries-tidy e = rw e (record { rest = λ j w. empty-entry 32 j })
 
 pub no-rows-tidy : {rs : List Row} → rs ≡ replicate 32 emptyRow → RowsTidy 0 rs
 no-rows-tidy e = rw e (record { rest = λ j w. empty 32 j })
-
--- ---- the messages of the link
-
-module _ (s : List ℕ) (c : Cursor) (h : Chosen s c) where
-  pub bst-read : c .value ≡ 8 → {r : BstOf} → BstRead s c r
-      → MessageRead s (r .cursor) (kind.Bst (r .message)) (record { entries = r .list .entries; rows = r .list .rows .rows })
-  unfolding valuesOf messageTidy sound
-  bst-read e p = record { reads = chosen s c h 8 e (p .reads); tidy = p .tidy; sound = p .sound }
-
-  pub vst-read : c .value ≡ 9 → {r : VstOf} → VstRead s c r
-      → MessageRead s (r .cursor) (kind.Vst (r .message)) (record { entries = r .list .entries; rows = r .list .rows .rows })
-  unfolding valuesOf messageTidy sound
-  vst-read e p = record { reads = chosen s c h 9 e (p .reads); tidy = p .tidy; sound = p .sound }
 
 pub nine : {n : ℕ} → n < 10 → 8 ≤ n → (n ≡ 8 → ⊥) → n ≡ 9
 nine h k a = omega (arith, a)

@@ -12,8 +12,9 @@ pub mod Leads
 pub mod EntryLaws
 pub mod Stores
 pub mod StoreLaws
-pub mod LinkLaws
+pub mod ListLaws
 pub mod ChoiceLaws
+pub mod LinkLaws
 pub mod ServiceMessages
 pub mod FrontLaws
 pub mod Encoded

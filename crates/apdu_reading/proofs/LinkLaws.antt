@@ -1,75 +1,40 @@
--- BST and VST, from the readings of their components.
+-- BST and VST: what stands before and behind their application lists, from the readings of their components.
 -- Assumes nothing.
-use Prim.Native.Nat.{ℕ, zero, suc, _+_, _*_, _/_, _%_, _≤_, _<_}
+use Prim.Native.Nat.{ℕ, _+_, _*_, _/_, _%_, _≤_, _<_}
 use mathlib.Core.Path.{_≡_, refl, ap, sym, _∙_}
 use mathlib.Core.List.{List, [], _∷_, _++_}
 use mathlib.Core.Bool.{Bool, true, false}
-use native.Mathlib.Nat.{add-zero, zero-add}
+use native.Mathlib.Nat.{add-zero}
 use native.Mathlib.Omega.{arith}
-use lib.ListN.{length, getD, take, drop, replicate, take-append-drop}
-use lib.Seq.{drop-drop, take-take}
+use lib.ListN.{length, take, drop}
+use lib.Seq.{drop-drop}
 use lib.Dec.{eqb}
 use borrow.Author.Tests.{eqb-true, eqb-false}
 use Rattle.refusals.proofs.Tests.{by-cases, and-true}
 use Rattle.bits.specs.Bits.{bits, field, readField}
 use Rattle.bits.proofs.Laws.{field-lt, field-add}
-use Rattle.apdu_format.specs.Component.{lead, integer, fixed, entry, idCount, class}
+use Rattle.apdu_format.specs.Component.{choice, lead, integer, fixed, entryCount, idCount, class}
 use Rattle.apdu_format.specs.Table.{layoutOf}
-use Rattle.apdu_format.specs.Rules.{shape, brings, present, when, times, announced}
+use Rattle.apdu_format.specs.Rules.{shape, brings, present, when, announced}
 use Rattle.apdu_format.specs.Reading.{Value, fields, numbersOf, sum, need, fieldsOf, valueAt}
-use Rattle.apdu.specs.declared.lists.Row.{Row}
-use Rattle.apdu.specs.declared.lists.Entry.{Entry}
-use Rattle.apdu.specs.Values.{bitOf, num, if, idList, entriesValues, rowsOf, listValues, bstValues, vstValues, emptyRow, emptyEntry}
-use Rattle.apdu.specs.Sound.{entriesSound, bstSound, vstSound}
-use Rattle.apdu.proofs.Laws.{sound-if, own-sound, rows-of-append}
+use Rattle.apdu.specs.declared.records.Message.the-variants as kind
+use Rattle.apdu.specs.Values.{bitOf, num, idList, bstValues, vstValues, valuesOf}
+use Rattle.apdu.specs.Tidy.{messageTidy}
+use Rattle.apdu.specs.Sound.{bstSound, vstSound, sound}
+use Rattle.apdu.proofs.Laws.{sound-if, own-sound}
 use Rattle.apdu_reading.specs.declared.cursor.Cursor.{Cursor}
 use Rattle.apdu_reading.specs.declared.link.Configuration.{Configuration}
+use Rattle.apdu_reading.specs.declared.link.LinkFront.{LinkFront}
 use Rattle.apdu_reading.specs.Cursor.{component, pieceOf, Reads, Inside}
-use Rattle.apdu_reading.specs.Lists.{between}
-use Rattle.apdu_reading.specs.Applications.{CountMaybe, ConfigurationRead}
-use Rattle.apdu_reading.specs.Messages.{Begun}
-use Rattle.apdu_reading.proofs.Stores.{Applications, AppList, StoreReady, Stored, ListMaybe, BstRead, VstRead}
+use Rattle.apdu_reading.specs.Applications.{ConfigurationRead}
+use Rattle.apdu_reading.specs.Messages.{Begun, FrontRead, EndRead}
+use Rattle.apdu_reading.specs.Answers.{first, Chosen}
 use Rattle.apdu_reading.proofs.Pieces.{sees, good, fine}
 use Rattle.apdu_reading.proofs.Components.{lead-is, fixed-is}
 use Rattle.apdu_reading.proofs.Chains.{valued, itself, nothing, then, still, clean, enter, alone}
 use Rattle.apdu_reading.proofs.Strings.{fault-of, room-of, integer-reads, integer-room, piece-number}
-use Rattle.apdu_reading.proofs.Boxes.{and-then, found-nothing, if-join, empty}
 use Rattle.apdu_reading.proofs.Leads.{set-bit, narrow, lead-in, lead-room}
-
--- ---- an application list
-
-abbrev counted : Applications → Cursor → Applications
-counted a d = record { rows = record { cursor = d; used = a .rows .used; rows = a .rows .rows }; entries = a .entries }
-
-module _ (s : List ℕ) (p : Bool) (base : ℕ) (a : Applications) (o : StoreReady base a) {d : Cursor} (m : CountMaybe s p (a .rows .cursor) d) where
-  pub list-ready : StoreReady base (counted a d)
-  list-ready =
-      record {
-        free = record { sum = λ z. let b = o .free .sum (m .clean z) in let r = m .room in omega arith; rest = o .free .rest; long = o .free .long; few = o .free .few };
-        rest = o .rest;
-        long = o .long;
-        each = λ z j. o .each (m .clean z) j;
-      }
-
-  pub list-maybe : {r : Applications} → Stored s base (counted a d) (d .value) r → ListMaybe s p base a (record { count = d .value; list = r })
-  unfolding times
-  list-maybe {r} t =
-      let vs = entriesValues s (between base (base + d .value) (r .entries)) (between (a .rows .used) (r .rows .used) (r .rows .rows)) in
-      record {
-        reads =
-            valued (λ g. if-join p (num (d .value) ∷ []) vs (λ z. found-nothing (rw (ap (λ (n : ℕ). times n (entry ∷ [])) (m .absent z)) at (t .reads)) g)) (and-then (m .leads) (t .reads));
-        grown = record { free = t .grown .free; more = t .grown .more; kept = t .grown .kept };
-        sound = t .sound;
-        ready = t .ready;
-        rows = t .rows;
-        kept = t .kept;
-        small = m .small;
-        absent = m .absent;
-      }
-
--- behind the first list, which begins at place 0
-pub first-ready : {s : List ℕ} {a : Applications} {f : AppList} → ListMaybe s true 0 a f → StoreReady (f .count) (f .list)
-first-ready {f = f} p = rw (zero-add (f .count)) at (p .ready)
+use Rattle.apdu_reading.proofs.ChoiceLaws.{begun, choice-lt, chosen, nine}
 
 -- ---- numbers of whole octets
 
@@ -143,82 +108,12 @@ two-octets s c e = e ∙ fixed-is s c 2
 pub four-octets : (s : List ℕ) (c : Cursor) {d : Cursor} → d ≡ pieceOf s 32 true c → d ≡ component s (fixed 4) c
 four-octets s c e = e ∙ fixed-is s c 4
 
--- ---- lists with nothing in them
+-- ---- what stands before the application lists
 
-pub empty-entry : (n j : ℕ) → getD (replicate n emptyEntry) j emptyEntry ≡ emptyEntry
-empty-entry zero j = refl
-empty-entry (suc n) zero = refl
-empty-entry (suc n) (suc j) = empty-entry n j
+module _ (s : List ℕ) (c : Cursor) (h : Chosen s c) where
+  abbrev b : Begun c
+  b = begun s c h
 
-abbrev apps : Cursor → List Row → List Entry → Applications
-apps c rows es = record { rows = record { cursor = c; used = 0; rows = rows }; entries = es }
-
-pub nothing-stored : (c : Cursor) {rows : List Row} {es : List Entry} → rows ≡ replicate 32 emptyRow → es ≡ replicate 32 emptyEntry → c .room ≡ 32 → StoreReady 0 (apps c rows es)
-nothing-stored c e f r =
-    rw (e, f)
-    (record {
-      free = record { sum = λ z. omega arith; rest = record { rest = λ j w. empty 32 j }; long = refl; few = omega arith };
-      rest = record { rest = λ j w. empty-entry 32 j };
-      long = refl;
-      each = λ z j. rw (empty-entry 32 j) (record { are = λ q. (refl, tt) }, record { are = λ q. (refl, (refl, (refl, (refl, tt)))) });
-    })
-
--- ---- what is stored is what the record's values say
-
-take-none : {A : Type 0} (n : ℕ) → take {A = A} n [] ≡ []
-take-none zero = refl
-take-none (suc n) = refl
-
-drop-none : {A : Type 0} (n : ℕ) → drop {A = A} n [] ≡ []
-drop-none zero = refl
-drop-none (suc n) = refl
-
-take-between : {A : Type 0} (i n : ℕ) (l : List A) → between i (i + n) l ≡ take n (drop i l)
-take-between zero n l = rw (zero-add n)
-take-between (suc i) n [] = ap (drop (suc i)) (take-none (suc i + n)) ∙ drop-none (suc i) ∙ sym (ap (take n) (drop-none (suc i)) ∙ take-none n)
-take-between (suc i) n (a ∷ l) = let e : suc i + n ≡ suc (i + n) = omega arith in rw e (take-between i n l)
-
-module _ (s : List ℕ) (c : Cursor) {rows : List Row} {es : List Entry} {f : AppList} (a : ListMaybe s true 0 (apps c rows es) f) where
-  first-count : rowsOf (take (f .count) (f .list .entries)) ≡ f .list .rows .used
-  first-count = let e : 0 + f .count ≡ f .count = omega arith in let r = rw e at (a .rows) in omega arith
-
-  -- the first list, whatever is stored behind it
-  pub first-values : (rs : List Row) (fs : List Entry) → take (f .count) fs ≡ take (f .count) (f .list .entries) → take (f .list .rows .used) rs ≡ take (f .list .rows .used) (f .list .rows .rows)
-      → num (f .count) ∷ entriesValues s (between 0 (0 + f .count) (f .list .entries)) (between 0 (f .list .rows .used) (f .list .rows .rows)) ≡ listValues s (f .count) (take (f .count) fs) rs
-  first-values rs fs e g = rw (zero-add (f .count), e, first-count, g)
-
-  pub first-sound : (rs : List Row) (fs : List Entry) → take (f .count) fs ≡ take (f .count) (f .list .entries) → take (f .list .rows .used) rs ≡ take (f .list .rows .used) (f .list .rows .rows)
-      → f .list .rows .cursor .fault ≡ 0 → entriesSound (length s) (take (f .count) fs) (take (rowsOf (take (f .count) fs)) rs) ≡ true
-  first-sound rs fs e g h = rw (e, first-count, g) (rw (zero-add (f .count)) at (a .sound h))
-
-  module _ (p : Bool) {t : AppList} (b : ListMaybe s p (f .count) (f .list) t) where
-    pub second-sound : t .list .rows .cursor .fault ≡ 0
-        → entriesSound (length s) (take (t .count) (drop (f .count) (t .list .entries))) (drop (rowsOf (take (f .count) (t .list .entries))) (t .list .rows .rows)) ≡ true
-    second-sound h =
-        let e : take (f .count) (t .list .entries) ≡ take (f .count) (f .list .entries) = b .kept in
-        let own = take (t .count) (drop (f .count) (t .list .entries)) in
-        let u : f .list .rows .used + rowsOf own ≡ t .list .rows .used = rw (take-between (f .count) (t .count) (t .list .entries)) at (b .rows) in
-        own-sound (length s) own (drop (rowsOf (take (f .count) (t .list .entries))) (t .list .rows .rows))
-        ∙ rw (e, first-count, ← take-between (f .list .rows .used) (rowsOf own) (t .list .rows .rows), u)
-        (rw (take-between (f .count) (t .count) (t .list .entries)) at (b .sound h))
-
-    pub second-values : num (t .count) ∷ entriesValues s (between (f .count) (f .count + t .count) (t .list .entries)) (between (f .list .rows .used) (t .list .rows .used) (t .list .rows .rows))
-        ≡ listValues s (t .count) (take (t .count) (drop (f .count) (t .list .entries))) (drop (rowsOf (take (f .count) (t .list .entries))) (t .list .rows .rows))
-    second-values =
-        let e : take (f .count) (t .list .entries) ≡ take (f .count) (f .list .entries) = b .kept in
-        let u = sym (b .rows) in
-        rw (e, first-count, u, take-between (f .list .rows .used) (rowsOf (between (f .count) (f .count + t .count) (t .list .entries))) (t .list .rows .rows), take-between (f .count) (t .count) (t .list .entries))
-
-    pub both-count : rowsOf (take (f .count + t .count) (t .list .entries)) ≡ t .list .rows .used
-    both-count =
-        let n = f .count + t .count in
-        let w : take n (t .list .entries) ≡ take (f .count) (t .list .entries) ++ between (f .count) n (t .list .entries) =
-        sym (take-append-drop (f .count) (take n (t .list .entries))) ∙ ap (λ (l : List Entry). l ++ drop (f .count) (take n (t .list .entries))) (take-take (f .count) n (t .list .entries) (omega arith)) in
-        rw (w, rows-of-append, b .kept, first-count) (b .rows)
-
--- ---- BST and VST
-
-module _ (s : List ℕ) (c : Cursor) (b : Begun c) where
   bst-saw : (x y z : ℕ) → x ≡ field s 4 1 → y ≡ field s 5 16 → z ≡ field s 21 27 → sees s (lead 8) c ≡ fields (x ∷ y ∷ z ∷ [])
   unfolding shape layoutOf valueAt fieldsOf field
   bst-saw x y z p q r = rw (b .at, drop-drop 1 4 (bits s), drop-drop 16 5 (bits s), p, q, r)
@@ -235,80 +130,116 @@ module _ (s : List ℕ) (c : Cursor) (b : Begun c) where
   unfolding layoutOf sum
   vst-lead e = e ∙ lead-is s c 9 4 refl
 
-  module _ {l : Cursor} (k : l ≡ pieceOf s 44 false c) {time profile : Cursor} (h : time ≡ pieceOf s 32 true l) (i : (profile ≡ component s integer time) × (profile .value < 128)) where
-    pub bst-room : profile .room ≡ 32
+  module _ {l : Cursor} (k : l ≡ pieceOf s 44 false c) {time profile : Cursor} (q : time ≡ pieceOf s 32 true l)
+      (i : (profile ≡ component s integer time) × (profile .value < 128))
+      (x : Bool) {y z : ℕ} (fx : bitOf x ≡ field s 4 1) (fy : y ≡ readField s 5 16) (fz : z ≡ readField s 21 27) where
+    bst-room : profile .room ≡ 32
     unfolding announced
-    bst-room = integer-room s time (i .0) ∙ room-of s (fixed 4) l (λ fs. refl) (four-octets s l h) ∙ lead-room s c b 8 (bst-lead k)
+    bst-room = integer-room s time (i .0) ∙ room-of s (fixed 4) l (λ fs. refl) (four-octets s l q) ∙ lead-room s c b 8 (bst-lead k)
 
-    module _ {x : Bool} {y z : ℕ} (fx : bitOf x ≡ field s 4 1) (fy : y ≡ readField s 5 16) (fz : z ≡ readField s 21 27) {rows : List Row} {es : List Entry}
-        {f t : AppList} (p : ListMaybe s true 0 (apps profile rows es) f) (q : ListMaybe s x (f .count) (f .list) t) {ids : Cursor}
-        (r : Reads s (idCount ∷ []) (t .list .rows .cursor) ids (idList s (ids .start) (ids .value)) × (ids .value < 128) × (ids .room ≡ t .list .rows .cursor .room) × Inside s true ids) where
-      if-as : (v : Bool) (vs ws : List Value) → vs ≡ ws → if v vs ≡ if v ws
-      if-as v vs ws e = ap (if v) e
+    bst-opens : c .value ≡ 8 → {r : Cursor} {vs : List Value}
+        → Reads s (entryCount ∷ (when x (entryCount ∷ []) ++ (idCount ∷ []))) profile r vs
+        → Reads s (choice ∷ []) first r (fields (8 ∷ []) ∷ fields (bitOf x ∷ y ∷ z ∷ []) ∷ fields (time .value ∷ []) ∷ num (profile .value) ∷ vs)
+    unfolding layoutOf present
+    bst-opens e p =
+        chosen s c h 8 e
+        (lead-in s c b 8 (bitOf x ∷ y ∷ z ∷ []) (bst-lead k)
+        (bst-saw (bitOf x) y z fx (narrow s 5 16 (omega arith) fy) (narrow s 21 27 (omega arith) fz))
+        (rw (set-bit x) (then (fixed-reads s 4 l (omega arith) (four-octets s l q)) (then (integer-reads s time (i .0)) p))))
 
-      pub bst-is : BstRead s c
-          (record {
-            cursor = ids;
-            message =
-                record {
-                  manufacturer = y;
-                  individual = z;
-                  time = time .value;
-                  profile = profile .value;
-                  mandatory = f .count;
-                  «has_others» = x;
-                  others = t .count;
-                  profiles = ids .start;
-                  «profile_count» = ids .value;
-                };
-            list = t .list;
-          })
-      unfolding layoutOf present bstValues bstSound
-      bst-is =
-          record {
-            reads =
-                lead-in s c b 8 (bitOf x ∷ y ∷ z ∷ []) (bst-lead k) (bst-saw (bitOf x) y z fx (narrow s 5 16 (omega arith) fy) (narrow s 21 27 (omega arith) fz))
-                (rw (set-bit x)
-                (then (fixed-reads s 4 l (omega arith) (four-octets s l h))
-                (then (integer-reads s time (i .0))
-                (then (valued (λ g. first-values s profile p (t .list .rows .rows) (t .list .entries) (q .kept) (q .grown .kept)) (p .reads))
-                (then (valued (λ g. if-as x _ _ (second-values s profile p x q)) (q .reads)) (then (r .0) (nothing s (itself ids))))))));
-            sound = λ g.
-                let h = clean (r .0) g in
-                and-true (first-sound s profile p (t .list .rows .rows) (t .list .entries) (q .kept) (q .grown .kept) (clean (q .reads) h))
-                (and-true (sound-if x (second-sound s profile p x q h)) (r .3 .so g));
-            tidy = λ g. (
-              record { are = λ v. (q .absent v, tt) },
-              record { each = q .ready .each (clean (r .0) g); entries = q .ready .rest; rows = rw (both-count s profile p x q) (q .ready .free .rest) },
-            );
-          }
+    pub bst-front : c .value ≡ 8
+        → FrontRead s
+        (record {
+          cursor = profile;
+          choice = 8;
+          «has_others» = x;
+          fill = 0;
+          manufacturer = y;
+          individual = z;
+          time = time .value;
+          profile = profile .value;
+        })
+    bst-front e = record { room = bst-room; bst = λ w. bst-opens e; vst = λ n. absurd (n refl); only = λ n. absurd (n refl) }
 
-  module _ {l : Cursor} (k : l ≡ pieceOf s 4 false c) {profile : Cursor} (i : (profile ≡ component s integer l) × (profile .value < 128)) where
-    pub vst-room : profile .room ≡ 32
-    vst-room = integer-room s l (i .0) ∙ lead-room s c b 9 (vst-lead k)
+  module _ {l : Cursor} (k : l ≡ pieceOf s 4 false c) {profile : Cursor} (i : (profile ≡ component s integer l) × (profile .value < 128))
+      {x : ℕ} (fx : x ≡ readField s 4 4) where
+    vst-opens : c .value ≡ 9 → {r : Cursor} {vs : List Value} → Reads s (entryCount ∷ class ∷ []) profile r vs
+        → Reads s (choice ∷ []) first r (fields (9 ∷ []) ∷ fields (x ∷ []) ∷ num (profile .value) ∷ vs)
+    unfolding layoutOf present
+    vst-opens e p =
+        chosen s c h 9 e
+        (lead-in s c b 9 (x ∷ []) (vst-lead k) (vst-saw x (narrow s 4 4 (omega arith) fx)) (then (integer-reads s l (i .0)) p))
 
-    module _ {x : ℕ} (fx : x ≡ readField s 4 4) {rows : List Row} {es : List Entry} {f : AppList} (p : ListMaybe s true 0 (apps profile rows es) f)
-        {d : Configuration} (q : ConfigurationRead s (f .list .rows .cursor) d) where
-      pub vst-is : VstRead s c
-          (record {
-            cursor = d .cursor;
-            message =
-                record
-                { fill = x; profile = profile .value; applications = f .count; class = d .class; maker = d .maker; «has_status» = d .«has_status»; status = d .status };
-            list = f .list;
-          })
-      unfolding layoutOf present vstValues vstSound
-      vst-is =
-          record {
-            reads =
-                lead-in s c b 9 (x ∷ []) (vst-lead k) (vst-saw x (narrow s 4 4 (omega arith) fx))
-                (then (integer-reads s l (i .0))
-                (then (valued (λ g. first-values s profile p (f .list .rows .rows) (f .list .entries) refl refl) (p .reads)) (then (q .reads) (nothing s (itself (d .cursor))))));
-            sound = λ g.
-                own-sound (length s) (take (f .count) (f .list .entries)) (f .list .rows .rows)
-                ∙ first-sound s profile p (f .list .rows .rows) (f .list .entries) refl refl (clean (q .reads) g);
-            tidy = λ g. (
-              q .absent,
-              record { each = p .ready .each (clean (q .reads) g); entries = rw (zero-add (f .count)) at (p .ready .rest); rows = rw (first-count s profile p) (p .ready .free .rest) },
-            );
-          }
+    pub vst-front : 8 ≤ c .value → (c .value ≡ 8 → ⊥)
+        → FrontRead s
+        (record
+        { cursor = profile; choice = 9; «has_others» = false; fill = x; manufacturer = 0; individual = 0; time = 0; profile = profile .value })
+    vst-front e n =
+        record {
+          room = integer-room s l (i .0) ∙ lead-room s c b 9 (vst-lead k);
+          bst = λ w. absurd (omega (arith, w));
+          vst = λ w. vst-opens (nine (choice-lt s c h) e n);
+          only = λ w. refl;
+        }
+
+-- ---- what stands behind them
+
+module _ (s : List ℕ) (f : LinkFront) (opened : FrontRead s f) (m o : ℕ) (c : Cursor) where
+  pub bst-end : f .choice ≡ 8 → {ids : Cursor}
+      → Reads s (idCount ∷ []) c ids (idList s (ids .start) (ids .value)) × (ids .value < 128) × (ids .room ≡ c .room) × Inside s true ids
+      → EndRead s f m o c
+      (record {
+        cursor = ids;
+        message =
+            kind.Bst
+            (record {
+              manufacturer = f .manufacturer;
+              individual = f .individual;
+              time = f .time;
+              profile = f .profile;
+              mandatory = m;
+              «has_others» = f .«has_others»;
+              others = o;
+              profiles = ids .start;
+              «profile_count» = ids .value;
+            });
+      })
+  unfolding valuesOf bstValues messageTidy sound bstSound
+  bst-end e {ids} r =
+      record {
+        whole = λ w.
+            record {
+              reads = opened .bst e (w .reads (then (r .0) (nothing s (itself ids))));
+              tidy = λ g. (record { are = λ v. (w .absent v, tt) }, w .tidy (clean (r .0) g));
+              sound = λ g. let h = clean (r .0) g in and-true (w .first h) (and-true (sound-if (f .«has_others») (w .second h)) (r .3 .so g));
+            };
+      }
+
+  pub vst-end : (f .choice ≡ 8 → ⊥) → {d : Configuration} → ConfigurationRead s c d
+      → EndRead s f m o c
+      (record {
+        cursor = d .cursor;
+        message =
+            kind.Vst
+            (record {
+              fill = f .fill;
+              profile = f .profile;
+              applications = m;
+              class = d .class;
+              maker = d .maker;
+              «has_status» = d .«has_status»;
+              status = d .status;
+            });
+      })
+  unfolding valuesOf vstValues messageTidy sound vstSound
+  vst-end n {d} q =
+      record {
+        whole = λ {es} {rs} w.
+            let x = opened .only n in
+            let z : m + o ≡ m = omega (arith, w .absent x) in
+            record {
+              reads = opened .vst n (rw x at (w .reads (then (q .reads) (nothing s (itself (d .cursor))))));
+              tidy = λ g. (q .absent, rw z at (w .tidy (clean (q .reads) g)));
+              sound = λ g. own-sound (length s) (take m es) rs ∙ w .first (clean (q .reads) g);
+            };
+      }

@@ -5,7 +5,7 @@ use mathlib.Core.Path.{_≡_, refl, ap, sym, _∙_}
 use mathlib.Core.List.{List, [], _∷_, _++_, append-nil}
 use mathlib.Core.Bool.{Bool, true, false}
 use native.Mathlib.Numerals.{add-one}
-use native.Mathlib.Nat.{add-zero, zero-add, le-antisymm}
+use native.Mathlib.Nat.{add-zero, le-antisymm}
 use native.Mathlib.Omega.{arith}
 use lib.ListN.{length, getD, take, drop, set, length-set, length-drop, take-append-drop}
 use lib.Seq.{drop-append-le, take-take, length-take-le, take-set-le, getD-set-same, getD-set-other}
@@ -139,11 +139,6 @@ module _ (s : List ℕ) (base : ℕ) (a : Applications) (i : ℕ) {r : Rows} {l 
           by-cases (eqb j (base + i))
           (λ e. let k : j ≡ base + i = eqb-true _ _ e in let n = p .ready .long in rw (k, getD-set-same l (base + i) (t .entry) emptyEntry (omega arith)) (w .tidy h))
           (λ e. rw (getD-set-other l (base + i) j (t .entry) emptyEntry (eqb-false _ _ e)) (p .ready .each (clean (w .reads) h) j))
-
--- the first list begins at place 0
-pub first-more : (s : List ℕ) (a : Applications) (i : ℕ) {r : Rows} {l : List Entry} → Stored s 0 a i (apps r l) → {t : EntryRead} → EntryWhole s r t → i < 32
-    → Stored s 0 a (i + 1) (apps (t .rows) (set l i (t .entry)))
-first-more s a i p w h = rw (zero-add i) at (stored-more s 0 a i p w (let z : 0 + i ≡ i = zero-add i in omega arith))
 
 pub stored-all : {s : List ℕ} {base : ℕ} {a : Applications} {i n : ℕ} {r : Applications} → Stored s base a i r → i ≤ n → n ≤ i → Stored s base a n r
 stored-all p h k = rw (le-antisymm k h) p

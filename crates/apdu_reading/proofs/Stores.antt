@@ -1,22 +1,20 @@
--- Entries and rows as they are stored, and what is read of the messages of the link behind their choice.
+-- Entries and rows as they are stored, and application lists of them.
 -- Assumes nothing.
-use Prim.Native.Nat.{ℕ, _+_, _≤_}
+use Prim.Native.Nat.{ℕ, zero, suc, _+_, _≤_}
 use mathlib.Core.Path.{_≡_}
 use mathlib.Core.List.{List, [], _∷_}
 use mathlib.Core.Bool.{Bool, true, false}
 use lib.ListN.{length, getD, take}
-use Rattle.apdu_format.specs.Component.{entryCount, entry, lead}
+use Rattle.apdu_format.specs.Component.{entryCount, entry}
 use Rattle.apdu_format.specs.Rules.{when, times}
 use Rattle.apdu.specs.declared.lists.Entry.{Entry}
-use Rattle.apdu.specs.declared.records.Bst.{Bst}
-use Rattle.apdu.specs.declared.records.Vst.{Vst}
-use Rattle.apdu.specs.Values.{num, if, entriesValues, rowsOf, emptyEntry, bstValues, vstValues}
-use Rattle.apdu.specs.Tidy.{EntriesTidy, entryTidy, ListsTidy, bstTidy, vstTidy}
-use Rattle.apdu.specs.Sound.{entriesSound, bstSound, vstSound}
+use Rattle.apdu.specs.Values.{num-if, entriesValues, rowsOf, emptyEntry}
+use Rattle.apdu.specs.Tidy.{EntriesTidy, entryTidy}
+use Rattle.apdu.specs.Sound.{entriesSound}
 use Rattle.apdu_reading.specs.declared.cursor.Cursor.{Cursor}
 use Rattle.apdu_reading.specs.declared.rows.Rows.{Rows}
 use Rattle.apdu_reading.specs.Cursor.{Reads}
-use Rattle.apdu_reading.specs.Lists.{between}
+use Rattle.apdu_reading.specs.Lists.{Leads, between}
 use Rattle.apdu_reading.specs.Applications.{Open, Grown}
 
 -- the entries and rows read so far
@@ -41,42 +39,26 @@ pub record Stored (s : List ℕ) (base : ℕ) (a : Applications) (n : ℕ) (r : 
   pub rows : a .rows .used + rowsOf (between base (base + n) (r .entries)) ≡ r .rows .used
   pub kept : take base (r .entries) ≡ take base (a .entries)
 
--- an application list: its count, and the entries and rows with its own behind them
-pub record AppList : Type 0 where
-  pub count : ℕ
+-- behind the count of a list
+abbrev pub counted : Applications → Cursor → Applications
+counted a d = record { rows = record { cursor = d; used = a .rows .used; rows = a .rows .rows }; entries = a .entries }
+
+-- an application list of n entries, if it is there, stored behind those of a
+pub record Listed (s : List ℕ) (p : Bool) (base : ℕ) (a : Applications) (n : ℕ) (r : Applications) : Type 0 where
+  pub begin : Cursor
+  pub leads : Leads s (when p (entryCount ∷ [])) (a .rows .cursor) (times n (entry ∷ [])) begin (num-if p n)
+  pub small : n ≤ 16
+  pub absent : p ≡ false → n ≡ 0
+  pub stored : Stored s base (counted a begin) n r
+
+-- both lists, of which the second is there if p says so
+pub record Both (s : List ℕ) (p : Bool) (a : Applications) (mandatory others : ℕ) (r : Applications) : Type 0 where
   pub list : Applications
+  pub first : Listed s true 0 a mandatory list
+  pub second : Listed s p mandatory list others r
 
--- an application list, if it is there, stored behind those of a
-pub record ListMaybe (s : List ℕ) (p : Bool) (base : ℕ) (a : Applications) (r : AppList) : Type 0 where
-  pub reads : Reads s (when p (entryCount ∷ [])) (a .rows .cursor) (r .list .rows .cursor)
-      (if p (num (r .count) ∷ entriesValues s (between base (base + r .count) (r .list .entries)) (between (a .rows .used) (r .list .rows .used) (r .list .rows .rows))))
-  pub grown : Grown (a .rows) (r .list .rows)
-  pub sound : r .list .rows .cursor .fault ≡ 0
-      → entriesSound (length s) (between base (base + r .count) (r .list .entries)) (between (a .rows .used) (r .list .rows .used) (r .list .rows .rows)) ≡ true
-  pub ready : StoreReady (base + r .count) (r .list)
-  pub rows : a .rows .used + rowsOf (between base (base + r .count) (r .list .entries)) ≡ r .list .rows .used
-  pub kept : take base (r .list .entries) ≡ take base (a .entries)
-  pub small : r .count ≤ 16
-  pub absent : p ≡ false → r .count ≡ 0
-
--- ---- messages
-
-pub record BstOf : Type 0 where
-  pub cursor : Cursor
-  pub message : Bst
-  pub list : Applications
-
-pub record VstOf : Type 0 where
-  pub cursor : Cursor
-  pub message : Vst
-  pub list : Applications
-
-pub record BstRead (s : List ℕ) (c : Cursor) (r : BstOf) : Type 0 where
-  pub reads : Reads s (lead 8 ∷ []) c (r .cursor) (bstValues s (r .message) (r .list .entries) (r .list .rows .rows))
-  pub sound : r .cursor .fault ≡ 0 → bstSound (length s) (r .message) (r .list .entries) (r .list .rows .rows) ≡ true
-  pub tidy : r .cursor .fault ≡ 0 → bstTidy (r .message) × ListsTidy (r .message .mandatory + r .message .others) (r .list .entries) (r .list .rows .rows)
-
-pub record VstRead (s : List ℕ) (c : Cursor) (r : VstOf) : Type 0 where
-  pub reads : Reads s (lead 9 ∷ []) c (r .cursor) (vstValues s (r .message) (r .list .entries) (r .list .rows .rows))
-  pub sound : r .cursor .fault ≡ 0 → vstSound (length s) (r .message) (r .list .entries) (r .list .rows .rows) ≡ true
-  pub tidy : r .cursor .fault ≡ 0 → vstTidy (r .message) × ListsTidy (r .message .applications) (r .list .entries) (r .list .rows .rows)
+-- what is read after so many rounds: nothing, the first list, both
+unfoldable pub Upto : List ℕ → Bool → Applications → ℕ → ℕ → ℕ → Applications → Type 0
+Upto s p a zero m o r = (m + o ≡ 0) × StoreReady 0 r × (r ≡ a)
+Upto s p a (suc zero) m o r = (m ≡ 0) × Listed s true 0 a o r
+Upto s p a (suc (suc k)) m o r = Both s p a m o r

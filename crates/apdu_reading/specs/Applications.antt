@@ -2,19 +2,22 @@
 -- Assumes nothing.
 use Prim.Native.Nat.{ℕ, _+_, _≤_}
 use mathlib.Core.Path.{_≡_}
-use mathlib.Core.List.{List, [], _∷_}
+use mathlib.Core.List.{List, [], _∷_, _++_}
 use mathlib.Core.Bool.{Bool, true, false}
-use lib.ListN.{length, take}
-use Rattle.apdu_format.specs.Component.{entryCount, entry, class}
-use Rattle.apdu_format.specs.Reading.{fields}
+use lib.ListN.{length, take, drop}
+use Rattle.apdu_format.specs.Component.{Component, entryCount, entry, class}
+use Rattle.apdu_format.specs.Reading.{Value, fields}
 use Rattle.apdu_format.specs.Rules.{when, times}
-use Rattle.apdu.specs.Values.{bitOf, num-if, if, entryValues, entryRows}
-use Rattle.apdu.specs.Tidy.{Absent, RowsTidy, entryTidy}
-use Rattle.apdu.specs.Sound.{partFits, nested, entrySound}
+use Rattle.apdu.specs.declared.lists.Row.{Row}
+use Rattle.apdu.specs.declared.lists.Entry.{Entry}
+use Rattle.apdu.specs.Values.{bitOf, num-if, if, entryValues, entryRows, rowsOf, listValues}
+use Rattle.apdu.specs.Tidy.{Absent, RowsTidy, entryTidy, ListsTidy}
+use Rattle.apdu.specs.Sound.{partFits, nested, entrySound, entriesSound}
 use Rattle.apdu_reading.specs.declared.cursor.Cursor.{Cursor}
 use Rattle.apdu_reading.specs.declared.rows.Rows.{Rows}
 use Rattle.apdu_reading.specs.declared.applications.EntryHead.{EntryHead}
 use Rattle.apdu_reading.specs.declared.applications.EntryRead.{EntryRead}
+use Rattle.apdu_reading.specs.declared.applications.ListsRead.{ListsRead}
 use Rattle.apdu_reading.specs.declared.link.Configuration.{Configuration}
 use Rattle.apdu_reading.specs.Cursor.{Reads}
 use Rattle.apdu.specs.RowCounters.{row}
@@ -59,6 +62,26 @@ pub record CountMaybe (s : List ℕ) (p : Bool) (c r : Cursor) : Type 0 where
   pub small : r .value ≤ 16
   pub clean : r .fault ≡ 0 → c .fault ≡ 0
   pub absent : p ≡ false → r .value ≡ 0
+
+-- the entries of the first list, those of the second, and the rows of the second
+abbrev pub firstEntries : ListsRead → List Entry
+firstEntries r = take (r .mandatory) (r .entries)
+
+abbrev pub otherEntries : ListsRead → List Entry
+otherEntries r = take (r .others) (drop (r .mandatory) (r .entries))
+
+abbrev pub otherRows : ListsRead → List Row
+otherRows r = drop (rowsOf (firstEntries r)) (r .rows)
+
+-- the application lists of a message, of which the second is there if p says so; with whatever is read behind them
+pub record ListsWhole (s : List ℕ) (p : Bool) (c : Cursor) (r : ListsRead) : Type 0 where
+  pub reads : {is : List Component} {q : Cursor} {vs : List Value} → Reads s is (r .cursor) q vs
+      → Reads s (entryCount ∷ (when p (entryCount ∷ []) ++ is)) c q
+      (listValues s (r .mandatory) (firstEntries r) (r .rows) ++ (if p (listValues s (r .others) (otherEntries r) (otherRows r)) ++ vs))
+  pub first : r .cursor .fault ≡ 0 → entriesSound (length s) (firstEntries r) (take (rowsOf (firstEntries r)) (r .rows)) ≡ true
+  pub second : r .cursor .fault ≡ 0 → entriesSound (length s) (otherEntries r) (otherRows r) ≡ true
+  pub tidy : r .cursor .fault ≡ 0 → ListsTidy (r .mandatory + r .others) (r .entries) (r .rows)
+  pub absent : p ≡ false → r .others ≡ 0
 
 -- the configuration of a VST
 pub record ConfigurationRead (s : List ℕ) (c : Cursor) (r : Configuration) : Type 0 where

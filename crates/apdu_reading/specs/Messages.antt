@@ -2,10 +2,14 @@
 -- Assumes nothing.
 use Prim.Native.Nat.{ℕ, _+_}
 use mathlib.Core.Path.{_≡_}
-use mathlib.Core.List.{List, [], _∷_}
-use mathlib.Core.Bool.{true}
+use mathlib.Core.List.{List, [], _∷_, _++_}
+use mathlib.Core.Bool.{true, false}
 use lib.ListN.{length, replicate}
-use Rattle.apdu_format.specs.Component.{choice, integer}
+use Rattle.apdu_format.specs.Component.{choice, integer, entryCount, idCount, class}
+use Rattle.apdu_format.specs.Rules.{when}
+use Rattle.apdu_format.specs.Reading.{Value, fields}
+use Rattle.apdu.specs.declared.lists.Row.{Row}
+use Rattle.apdu.specs.declared.lists.Entry.{Entry}
 use Rattle.apdu.specs.declared.lists.Lists.{Lists}
 use Rattle.apdu.specs.declared.due.Due.{Due}
 use Rattle.apdu.specs.declared.records.Request.{Request}
@@ -14,15 +18,18 @@ use Rattle.apdu.specs.declared.records.SetRequest.{SetRequest}
 use Rattle.apdu.specs.declared.records.GetResponse.{GetResponse}
 use Rattle.apdu.specs.declared.records.Message.{Message}
 use Rattle.apdu.specs.declared.records.Message.the-variants as kind
-use Rattle.apdu.specs.Values.{num-if, valuesOf, emptyRow, emptyEntry}
+use Rattle.apdu.specs.Values.{bitOf, num, num-if, valuesOf, emptyRow, emptyEntry}
 use Rattle.apdu.specs.Tidy.{messageTidy}
 use Rattle.apdu.specs.Sound.{sound}
 use Rattle.apdu_reading.specs.declared.cursor.Cursor.{Cursor}
 use Rattle.apdu_reading.specs.declared.rows.Rows.{Rows}
 use Rattle.apdu_reading.specs.declared.services.Opened.{Opened}
+use Rattle.apdu_reading.specs.declared.link.LinkFront.{LinkFront}
+use Rattle.apdu_reading.specs.declared.link.LinkEnd.{LinkEnd}
 use Rattle.apdu_reading.specs.Cursor.{Reads}
 use Rattle.apdu_reading.specs.Lists.{Filled}
 use Rattle.apdu_reading.specs.Optional.{Maybe}
+use Rattle.apdu_reading.specs.Applications.{ListsWhole}
 use Rattle.apdu_reading.specs.Answers.{first}
 
 -- the cursor behind a message's choice
@@ -35,6 +42,24 @@ pub record MessageRead (s : List ℕ) (r : Cursor) (m : Message) (l : Lists) : T
   pub reads : Reads s (choice ∷ []) first r (valuesOf s m (l .entries) (l .rows))
   pub tidy : r .fault ≡ 0 → messageTidy m (l .entries) (l .rows)
   pub sound : r .fault ≡ 0 → sound (length s) m (l .entries) (l .rows) ≡ true
+
+-- ---- the link: a message up to its application lists, and the message once they and what is behind them are read
+
+pub record FrontRead (s : List ℕ) (f : LinkFront) : Type 0 where
+  pub room : f .cursor .room ≡ 32
+  pub bst : f .choice ≡ 8 → {r : Cursor} {vs : List Value}
+      → Reads s (entryCount ∷ (when (f .«has_others») (entryCount ∷ []) ++ (idCount ∷ []))) (f .cursor) r vs
+      → Reads s (choice ∷ []) first r
+      (fields (8 ∷ []) ∷ fields (bitOf (f .«has_others») ∷ f .manufacturer ∷ f .individual ∷ []) ∷ fields (f .time ∷ []) ∷ num (f .profile) ∷ vs)
+  pub vst : (f .choice ≡ 8 → ⊥) → {r : Cursor} {vs : List Value} → Reads s (entryCount ∷ class ∷ []) (f .cursor) r vs
+      → Reads s (choice ∷ []) first r (fields (9 ∷ []) ∷ fields (f .fill ∷ []) ∷ num (f .profile) ∷ vs)
+  pub only : (f .choice ≡ 8 → ⊥) → f .«has_others» ≡ false
+
+-- whatever the entries and their rows are, with them the message is read
+pub record EndRead (s : List ℕ) (f : LinkFront) (mandatory others : ℕ) (c : Cursor) (r : LinkEnd) : Type 0 where
+  pub whole : {es : List Entry} {rs : List Row}
+      → ListsWhole s (f .«has_others») (f .cursor) (record { cursor = c; mandatory = mandatory; others = others; entries = es; rows = rs })
+      → MessageRead s (r .cursor) (r .message) (record { entries = es; rows = rs })
 
 -- ---- services: a message up to its rows, and the message once they and the number behind them are read
 

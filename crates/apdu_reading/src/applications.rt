@@ -1,10 +1,8 @@
 // Application lists: entries, each with the rows of its parameter.
 ghost use mathlib.Core.Path.{_≡_};
-ghost use mathlib.Core.List.{[], _∷_};
-ghost use mathlib.Core.Bool.{true, false};
 ghost use Prim.Native.Nat.{_≤_};
 ghost use lib.ListN.{length};
-ghost use Rattle.apdu_reading.specs.Applications.{EntryOpens, Open, EntryWhole, CountMaybe};
+ghost use Rattle.apdu_reading.specs.Applications.{EntryOpens, Open, EntryWhole, CountMaybe, ListsWhole};
 use crate::component::count;
 use crate::component::entry_octet;
 use crate::cursor::Cursor;
@@ -15,7 +13,10 @@ use crate::rows::Rows;
 use crate::rows::fill;
 use apdu::Due;
 use apdu::Entry;
+use apdu::Row;
 use apdu::announces;
+use apdu::no_entries;
+use apdu::no_rows;
 
 // An entry up to its rows, of which `due` are announced.
 pub struct EntryHead {
@@ -99,4 +100,59 @@ pub(crate) fn count_if(s: &[u8], p: bool, c: Cursor) -> Cursor
         return count(s, c);
     }
     marked(c, 0, 0)
+}
+
+// The application lists of a message: how many entries each has, the entries one behind the other, and their rows.
+pub struct ListsRead {
+    pub cursor: Cursor,
+    pub mandatory: u64,
+    pub others: u64,
+    pub entries: [Entry; 32],
+    pub rows: [Row; 32],
+}
+
+// A list, and behind it a second one if it is there. The entries of both are read in one place, where the calls become part of the loop.
+pub(crate) fn application_lists(s: &[u8], second: bool, c: Cursor) -> ListsRead
+    requires { ⌜ (length (now s) ≤ 512) × (c .room ≡ 32) ⌝ }
+    ensures { λ r. ⌜ ListsWhole (now (s .entry)) second c r ⌝ }
+{
+    let mut cursor = c;
+    let mut used: u64 = 0;
+    let mut rows = no_rows();
+    let mut entries = no_entries();
+    let mut mandatory: u64 = 0;
+    let mut others: u64 = 0;
+    let mut round: u64 = 0;
+    while round < 2 {
+        cursor = count_if(s, (round == 0) | second, cursor);
+        mandatory += others;
+        others = cursor.value;
+        round += 1;
+        let mut i: u64 = 0;
+        while i < others {
+            let h = entry_head(s, cursor);
+            let place = (mandatory + i) as usize;
+            i += 1;
+            if h.due == 0 {
+                let entry = h.entry;
+                cursor = h.cursor;
+                entries[place] = entry;
+            } else {
+                let t = with_rows(s, h, Rows { cursor, used, rows });
+                let entry = t.entry;
+                let more = t.rows;
+                cursor = more.cursor;
+                used = more.used;
+                rows = more.rows;
+                entries[place] = entry;
+            }
+        }
+    }
+    ListsRead {
+        cursor,
+        mandatory,
+        others,
+        entries,
+        rows,
+    }
 }

@@ -1,12 +1,10 @@
-// The messages of the I-Kernel, behind their choice: BST and VST. Each holds its entries and their rows while it reads them; all else hands over small structs.
-ghost use mathlib.Core.Path.{_≡_};
+// The messages of the I-Kernel, behind their choice: BST and VST. They differ in what stands before and behind their application lists.
 ghost use Prim.Native.Nat.{_≤_};
 ghost use lib.ListN.{length};
 ghost use Rattle.apdu_reading.specs.Applications.{ConfigurationRead};
+ghost use Rattle.apdu_reading.specs.Messages.{FrontRead, EndRead};
 ghost use Rattle.apdu_reading.specs.Answers.{Chosen, Answered};
-use crate::applications::count_if;
-use crate::applications::entry_head;
-use crate::applications::with_rows;
+use crate::applications::application_lists;
 use crate::component::id_list;
 use crate::component::integer;
 use crate::cursor::Cursor;
@@ -15,92 +13,58 @@ use crate::front::Answer;
 use crate::front::Reading;
 use crate::front::ended;
 use crate::front::refused;
-use crate::rows::Rows;
 use crate::services::flag;
 use apdu::Bst;
 use apdu::Lists;
 use apdu::Message;
 use apdu::Vst;
-use apdu::no_entries;
-use apdu::no_rows;
 
-pub(crate) fn bst(s: &[u8], c: Cursor) -> Reading
-    requires { ⌜ (length (now s) ≤ 512) × Chosen (now s) c × (c .value ≡ 8) ⌝ }
-    ensures { λ r. ⌜ Answered (now (s .entry)) r ⌝ }
+// A BST or VST up to its application lists. What its kind does not have is 0, and a VST has no second list.
+pub struct LinkFront {
+    pub cursor: Cursor,
+    pub choice: u64,
+    pub has_others: bool,
+    pub fill: u64,
+    pub manufacturer: u64,
+    pub individual: u64,
+    pub time: u64,
+    pub profile: u64,
+}
+
+pub(crate) fn link_front(s: &[u8], c: Cursor) -> LinkFront
+    requires { ⌜ (length (now s) ≤ 512) × Chosen (now s) c × (8 ≤ c .value) ⌝ }
+    ensures { λ r. ⌜ FrontRead (now (s .entry)) r ⌝ }
 {
-    let lead = piece(s, 44, false, c);
-    let has_others = flag(s, 4);
-    let manufacturer = bits::read_field(s, 5, 16);
-    let individual = bits::read_field(s, 21, 27);
-    let time = piece(s, 32, true, lead);
-    let profile = integer(s, time);
-    let first = count_if(s, true, profile);
-    let mandatory = first.value;
-    let mut cursor = first;
-    let mut used: u64 = 0;
-    let mut rows = no_rows();
-    let mut entries = no_entries();
-    let mut i: u64 = 0;
-    while i < mandatory {
-        let h = entry_head(s, cursor);
-        let place = i as usize;
-        i += 1;
-        if h.due == 0 {
-            let entry = h.entry;
-            cursor = h.cursor;
-            entries[place] = entry;
-        } else {
-            let t = with_rows(s, h, Rows { cursor, used, rows });
-            let entry = t.entry;
-            let more = t.rows;
-            cursor = more.cursor;
-            used = more.used;
-            rows = more.rows;
-            entries[place] = entry;
-        }
+    if c.value == 8 {
+        let lead = piece(s, 44, false, c);
+        let has_others = flag(s, 4);
+        let manufacturer = bits::read_field(s, 5, 16);
+        let individual = bits::read_field(s, 21, 27);
+        let time = piece(s, 32, true, lead);
+        let profile = integer(s, time);
+        return LinkFront {
+            cursor: profile,
+            choice: 8,
+            has_others,
+            fill: 0,
+            manufacturer,
+            individual,
+            time: time.value,
+            profile: profile.value,
+        };
     }
-    let second = count_if(s, has_others, cursor);
-    let others = second.value;
-    cursor = second;
-    let mut j: u64 = 0;
-    while j < others {
-        let h = entry_head(s, cursor);
-        let place = (mandatory + j) as usize;
-        j += 1;
-        if h.due == 0 {
-            let entry = h.entry;
-            cursor = h.cursor;
-            entries[place] = entry;
-        } else {
-            let t = with_rows(s, h, Rows { cursor, used, rows });
-            let entry = t.entry;
-            let more = t.rows;
-            cursor = more.cursor;
-            used = more.used;
-            rows = more.rows;
-            entries[place] = entry;
-        }
-    }
-    let profiles = id_list(s, cursor);
-    let message = Bst {
-        manufacturer,
-        individual,
-        time: time.value,
+    let lead = piece(s, 4, false, c);
+    let fill = bits::read_field(s, 4, 4);
+    let profile = integer(s, lead);
+    LinkFront {
+        cursor: profile,
+        choice: 9,
+        has_others: false,
+        fill,
+        manufacturer: 0,
+        individual: 0,
+        time: 0,
         profile: profile.value,
-        mandatory,
-        has_others,
-        others,
-        profiles: profiles.start,
-        profile_count: profiles.value,
-    };
-    let end = ended(s, profiles);
-    if end.fault != 0 {
-        return refused(end.fault, end.position);
-    }
-    Reading {
-        answer: Answer::Message(Message::Bst(message)),
-        end: end.at,
-        lists: Lists { entries, rows },
     }
 }
 
@@ -139,57 +103,49 @@ pub(crate) fn configured(s: &[u8], c: Cursor) -> Configuration
     }
 }
 
-pub(crate) fn vst(s: &[u8], c: Cursor) -> Reading
-    requires { ⌜ (length (now s) ≤ 512) × Chosen (now s) c × (c .value ≡ 9) ⌝ }
-    ensures { λ r. ⌜ Answered (now (s .entry)) r ⌝ }
+// The message, and the cursor behind it.
+pub struct LinkEnd {
+    pub cursor: Cursor,
+    pub message: Message,
+}
+
+// What stands behind the application lists, of which c is the end: the profiles of a BST, the configuration of a VST.
+pub(crate) fn link_end(s: &[u8], f: LinkFront, mandatory: u64, others: u64, c: Cursor) -> LinkEnd
+    requires { ⌜ (length (now s) ≤ 512) × FrontRead (now s) f ⌝ }
+    ensures { λ r. ⌜ EndRead (now (s .entry)) f mandatory others c r ⌝ }
 {
-    let lead = piece(s, 4, false, c);
-    let fill = bits::read_field(s, 4, 4);
-    let profile = integer(s, lead);
-    let first = count_if(s, true, profile);
-    let applications = first.value;
-    let mut cursor = first;
-    let mut used: u64 = 0;
-    let mut rows = no_rows();
-    let mut entries = no_entries();
-    let mut i: u64 = 0;
-    while i < applications {
-        let h = entry_head(s, cursor);
-        let place = i as usize;
-        i += 1;
-        if h.due == 0 {
-            let entry = h.entry;
-            cursor = h.cursor;
-            entries[place] = entry;
-        } else {
-            let t = with_rows(s, h, Rows { cursor, used, rows });
-            let entry = t.entry;
-            let more = t.rows;
-            cursor = more.cursor;
-            used = more.used;
-            rows = more.rows;
-            entries[place] = entry;
-        }
+    if f.choice == 8 {
+        let profiles = id_list(s, c);
+        let message = Bst {
+            manufacturer: f.manufacturer,
+            individual: f.individual,
+            time: f.time,
+            profile: f.profile,
+            mandatory,
+            has_others: f.has_others,
+            others,
+            profiles: profiles.start,
+            profile_count: profiles.value,
+        };
+        return LinkEnd {
+            cursor: profiles,
+            message: Message::Bst(message),
+        };
     }
-    let held = configured(s, cursor);
-    let behind = held.cursor;
+    let held = configured(s, c);
+    let cursor = held.cursor;
     let message = Vst {
-        fill,
-        profile: profile.value,
-        applications,
+        fill: f.fill,
+        profile: f.profile,
+        applications: mandatory,
         class: held.class,
         maker: held.maker,
         has_status: held.has_status,
         status: held.status,
     };
-    let end = ended(s, behind);
-    if end.fault != 0 {
-        return refused(end.fault, end.position);
-    }
-    Reading {
-        answer: Answer::Message(Message::Vst(message)),
-        end: end.at,
-        lists: Lists { entries, rows },
+    LinkEnd {
+        cursor,
+        message: Message::Vst(message),
     }
 }
 
@@ -198,8 +154,19 @@ pub(crate) fn link(s: &[u8], c: Cursor) -> Reading
     requires { ⌜ (length (now s) ≤ 512) × Chosen (now s) c × (8 ≤ c .value) ⌝ }
     ensures { λ r. ⌜ Answered (now (s .entry)) r ⌝ }
 {
-    if c.value == 8 {
-        return bst(s, c);
+    let f = link_front(s, c);
+    let lists = application_lists(s, f.has_others, f.cursor);
+    let e = link_end(s, f, lists.mandatory, lists.others, lists.cursor);
+    let end = ended(s, e.cursor);
+    if end.fault != 0 {
+        return refused(end.fault, end.position);
     }
-    vst(s, c)
+    let message = e.message;
+    let entries = lists.entries;
+    let rows = lists.rows;
+    Reading {
+        answer: Answer::Message(message),
+        end: end.at,
+        lists: Lists { entries, rows },
+    }
 }
