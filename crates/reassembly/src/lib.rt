@@ -5,6 +5,7 @@ mod checks;
 mod copy;
 mod fragment_call;
 
+use slots::Slot;
 use slots::Table;
 
 // The limits of a call; those of the slots are in the crate `slots`.
@@ -53,6 +54,13 @@ pub(crate) struct Arrival {
     pub tick: u32,
     pub last: bool,
     pub begins: bool,
+    pub index: usize,
+}
+
+// What such a fragment is answered, and the one slot that it changes: what it is then, and its index.
+pub(crate) struct Change {
+    pub answer: FragmentAnswer,
+    pub slot: Slot,
     pub index: usize,
 }
 

@@ -64,13 +64,19 @@ part-payload-start c = search needs
 part-payload-end : tie.Need-part-payload-end
 part-payload-end c = search needs
 
+lowest-free-requires : tie.Need-lowest-free-requires
+lowest-free-requires c κs = search needs
+
 accept-requires : tie.Need-accept-requires
 accept-requires c κs =
-    let a = c .before .before .before .before .before .before .before .before .before .before .before .before .before .before .before .before .before .args in
-    let found = look (a .lid) (a .tick) (a .lsdu .now) (a .table) (a .store .now) (a .output .now) (c .before .before .before .before .before .before .before .before .before .before .before .before .before .sound .result) (c .before .before .before .before .before .before .before .before .before .before .fragment-in .result) (c .before .before .before .before .before .before .before .before .slot-at .result) (c .before .before .before .before .before .before .before .facts-of .result) (c .before .before .before .before .before .before .before .before .before .find .result) (c .before .before .before .before .before .before .before .before .before .before .before .before .lsdu-refusal .result) (c .before .before .before .before .before .before .fragment-refusal .result)
-    (c .before .before .before .before .before .before .before .before .before .before .before .before .before .sound .ensures) (c .before .before .before .before .before .before .before .before .before .before .before .before .lsdu-refusal .ensures) (c .before .before .before .before .before .before .before .before .before .before .fragment-in .ensures) (c .before .before .before .before .before .before .before .before .before .find .ensures) (c .before .before .before .before .before .before .before .before .slot-at .ensures) (c .before .before .before .before .before .before .before .facts-of .ensures) (c .before .before .before .before .before .before .fragment-refusal .ensures) in
-    let n : length (a .table .slots) ≡ 8 = search (long, c .before .before .before .before .before .before .before .before .before .before .before .before .before .before .before .before .before .good) in
-    asks (a .lid) (a .tick) (a .lsdu .now) (a .table) (a .store .now) (a .output .now) found (c .before .before .before .before .before .before .before .before .before .before .before .if1 .left) (c .before .before .before .before .before .if2 .left) n
+    let a = c .before .before .before .before .before .before .before .before .before .before .before .before .before .before .before .before .before .before .args in
+    let found = look (a .lid) (a .tick) (a .lsdu .now) (a .table) (a .store .now) (a .output .now) (c .before .before .before .before .before .before .before .before .before .before .before .before .before .before .sound .result) (c .before .before .before .before .before .before .before .before .before .before .before .fragment-in .result) (c .before .before .before .before .before .before .before .before .before .slot-at .result) (c .before .before .before .before .before .before .before .before .facts-of .result) (c .before .before .before .before .before .before .before .before .before .before .find .result) (c .before .before .before .before .before .before .before .before .before .before .before .before .before .lsdu-refusal .result) (c .before .before .before .before .before .before .before .fragment-refusal .result)
+    (c .before .before .before .before .before .before .before .before .before .before .before .before .before .before .sound .ensures) (c .before .before .before .before .before .before .before .before .before .before .before .before .before .lsdu-refusal .ensures) (c .before .before .before .before .before .before .before .before .before .before .before .fragment-in .ensures) (c .before .before .before .before .before .before .before .before .before .before .find .ensures) (c .before .before .before .before .before .before .before .before .before .slot-at .ensures) (c .before .before .before .before .before .before .before .before .facts-of .ensures) (c .before .before .before .before .before .before .before .fragment-refusal .ensures) in
+    let n : length (a .table .slots) ≡ 8 = search (long, c .before .before .before .before .before .before .before .before .before .before .before .before .before .before .before .before .before .before .good) in
+    asks (a .lid) (a .tick) (a .lsdu .now) (a .table) (a .store .now) (a .output .now) found (c .before .before .before .before .before .before .before .before .before .before .before .before .if1 .left) (c .before .before .before .before .before .before .if2 .left) (c .before .before .lowest-free .ensures) n
+
+with-slot-requires : tie.Need-with-slot-requires
+with-slot-requires c κs = search needs
 
 same-length : tie.Need-same-length
 same-length c = search needs
@@ -80,10 +86,10 @@ same-length-2 c = search needs
 
 returns-3 : tie.Need-returns-3
 returns-3 c =
-    let a = c .before .before .before .before .before .before .before .before .before .before .before .before .before .before .before .before .before .before .before .before .before .before .args in
-    let found = look (a .lid) (a .tick) (a .lsdu .now) (a .table) (a .store .now) (a .output .now) (c .before .before .before .before .before .before .before .before .before .before .before .before .before .before .before .before .before .before .sound .result) (c .before .before .before .before .before .before .before .before .before .before .before .before .before .before .before .fragment-in .result) (c .before .before .before .before .before .before .before .before .before .before .before .before .before .slot-at .result) (c .before .before .before .before .before .before .before .before .before .before .before .before .facts-of .result) (c .before .before .before .before .before .before .before .before .before .before .before .before .before .before .find .result) (c .before .before .before .before .before .before .before .before .before .before .before .before .before .before .before .before .before .lsdu-refusal .result) (c .before .before .before .before .before .before .before .before .before .before .before .fragment-refusal .result)
-    (c .before .before .before .before .before .before .before .before .before .before .before .before .before .before .before .before .before .before .sound .ensures) (c .before .before .before .before .before .before .before .before .before .before .before .before .before .before .before .before .before .lsdu-refusal .ensures) (c .before .before .before .before .before .before .before .before .before .before .before .before .before .before .before .fragment-in .ensures) (c .before .before .before .before .before .before .before .before .before .before .before .before .before .before .find .ensures) (c .before .before .before .before .before .before .before .before .before .before .before .before .before .slot-at .ensures) (c .before .before .before .before .before .before .before .before .before .before .before .before .facts-of .ensures) (c .before .before .before .before .before .before .before .before .before .before .before .fragment-refusal .ensures) in
-    (demanded, gives (a .lid) (a .tick) (a .lsdu .now) (a .table) (a .store .now) (a .output .now) found (c .before .before .before .before .before .before .before .before .before .before .before .before .before .before .before .before .if1 .left) (c .before .before .before .before .before .before .before .before .before .before .if2 .left) (c .before .before .before .before .accept .result) _ _ (c .before .before .before .before .accept .ensures))
+    let a = c .before .before .before .before .before .before .before .before .before .before .before .before .before .before .before .before .before .before .before .before .before .before .before .before .before .args in
+    let found = look (a .lid) (a .tick) (a .lsdu .now) (a .table) (a .store .now) (a .output .now) (c .before .before .before .before .before .before .before .before .before .before .before .before .before .before .before .before .before .before .before .before .before .sound .result) (c .before .before .before .before .before .before .before .before .before .before .before .before .before .before .before .before .before .before .fragment-in .result) (c .before .before .before .before .before .before .before .before .before .before .before .before .before .before .before .before .slot-at .result) (c .before .before .before .before .before .before .before .before .before .before .before .before .before .before .before .facts-of .result) (c .before .before .before .before .before .before .before .before .before .before .before .before .before .before .before .before .before .find .result) (c .before .before .before .before .before .before .before .before .before .before .before .before .before .before .before .before .before .before .before .before .lsdu-refusal .result) (c .before .before .before .before .before .before .before .before .before .before .before .before .before .before .fragment-refusal .result)
+    (c .before .before .before .before .before .before .before .before .before .before .before .before .before .before .before .before .before .before .before .before .before .sound .ensures) (c .before .before .before .before .before .before .before .before .before .before .before .before .before .before .before .before .before .before .before .before .lsdu-refusal .ensures) (c .before .before .before .before .before .before .before .before .before .before .before .before .before .before .before .before .before .before .fragment-in .ensures) (c .before .before .before .before .before .before .before .before .before .before .before .before .before .before .before .before .before .find .ensures) (c .before .before .before .before .before .before .before .before .before .before .before .before .before .before .before .before .slot-at .ensures) (c .before .before .before .before .before .before .before .before .before .before .before .before .before .before .before .facts-of .ensures) (c .before .before .before .before .before .before .before .before .before .before .before .before .before .before .fragment-refusal .ensures) in
+    (demanded, gives (a .lid) (a .tick) (a .lsdu .now) (a .table) (a .store .now) (a .output .now) found (c .before .before .before .before .before .before .before .before .before .before .before .before .before .before .before .before .before .before .before .if1 .left) (c .before .before .before .before .before .before .before .before .before .before .before .before .before .if2 .left) (c .before .before .before .before .before .before .before .before .before .lowest-free .ensures) (c .before .before .before .before .before .before .accept .ensures) (c .with-slot .ensures))
 
 pub fragment-spec : {M : Type 1} → statement M
 fragment-spec =
@@ -104,7 +110,9 @@ fragment-spec =
     sub-payload
     part-payload-start
     part-payload-end
+    lowest-free-requires
     accept-requires
+    with-slot-requires
     same-length
     same-length-2
     returns-3)
