@@ -63,7 +63,8 @@ module _ {a : Arrival} {slot : Slot} {lowest : ℕ} {payload store output : List
 
 -- ---- what they give
 
-module _ {a : Arrival} {slot : Slot} {lowest before dropped : ℕ} {payload store output : List ℕ} {r : Change} (b : before ≡ pick (a .begins) 0 (slot .held)) (d : dropped ≡ pick (a .begins) (slot .held) 0) where
+module _ {a : Arrival} {slot : Slot} {lowest before dropped : ℕ} {payload store output : List ℕ} {r : Change}
+    (b : before ≡ pick (a .begins) 0 (slot .held)) (d : dropped ≡ pick (a .begins) (slot .held) 0) where
   pub deliver-gives : {output' : List ℕ} → a .last ≡ true → DeliverGives (a .index) before dropped payload store output r output'
       → AcceptGives a slot lowest payload store output r store output'
   unfolding fragmentTaken
@@ -73,7 +74,8 @@ module _ {a : Arrival} {slot : Slot} {lowest before dropped : ℕ} {payload stor
         let d' = d ∙ ap (λ (s : Slot). pick (a .begins) (s .held) 0) at in
         rw l
         ((λ k. outcomeOf (h .change-is k) t store (h .output-is k))
-        ∙ λ k. outcomeOf (record { answer = Whole (b' k + length payload) (d' k); slot = free; index = found k }) t store (putAt output 0 (take (b' k) (drop (partAt (found k)) store) ++ payload)));
+        ∙ λ k. outcomeOf (record { answer = Whole (b' k + length payload) (d' k); slot = free; index = found k }) t store
+        (putAt output 0 (take (b' k) (drop (partAt (found k)) store) ++ payload)));
   }
 
   pub keep-gives : {taken next tick : ℕ} {store' : List ℕ} → a .last ≡ false → taken ≡ pick (isBusy slot) (a .index) lowest
@@ -88,7 +90,8 @@ module _ {a : Arrival} {slot : Slot} {lowest before dropped : ℕ} {payload stor
         let e' = e ∙ λ k. pick (isBusy (at k)) (found k) (low k) in
         let n' = n ∙ ap (λ (s : Slot). pick (a .begins) 1 (s .next + 1)) at in
         let c' = c ∙ ap (λ (s : Slot). pick (a .begins) (a .tick) (s .tick)) at in
+        let slot' : _≡_ {A = Slot} _ _ = λ k. record { lid = a .lid; number = a .number; next = n' k; held = b' k + length payload; tick = c' k } in
         rw l
         ((λ k. outcomeOf (h .change-is k) t (h .store-is k) output)
-        ∙ λ k. outcomeOf (record { answer = Held (b' k + length payload) (d' k); slot = record { lid = a .lid; number = a .number; next = n' k; held = b' k + length payload; tick = c' k }; index = e' k }) t (putAt store (partAt (e' k) + b' k) payload) output);
+        ∙ λ k. outcomeOf (record { answer = Held (b' k + length payload) (d' k); slot = slot' k; index = e' k }) t (putAt store (partAt (e' k) + b' k) payload) output);
   }

@@ -55,5 +55,6 @@ outcomeOf r table store output =
 
 -- of each table that has the pair's slot there, and its lowest free one
 pub record AcceptGives (a : Arrival) (slot : Slot) (lowest : ℕ) (payload store output : List ℕ) (r : Change) (store' output' : List ℕ) : Type 0 where
-  pub outcome-is : (table : Table) → a .index ≡ indexOf (a .lid) (a .number) (table .slots) → slot ≡ slotFor (a .lid) (a .number) table → lowest ≡ lowestFree table
+  pub outcome-is : (table : Table) → a .index ≡ indexOf (a .lid) (a .number) (table .slots) → slot ≡ slotFor (a .lid) (a .number) table
+      → lowest ≡ lowestFree table
       → outcomeOf r table store' output' ≡ fragmentTaken (a .last) (a .begins) (a .lid) (a .number) (a .tick) payload table store output

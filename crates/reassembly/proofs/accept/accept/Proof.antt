@@ -22,7 +22,9 @@ same-length-2 c = search needs
 
 returns : tie.Need-returns
 returns c =
-    deliver-gives (c .before .before .before .before .before .before .before .choose .ensures) (c .before .before .before .before .before .before .choose2 .ensures) (c .before .before .before .before .before .if1 .taken) (c .before .before .deliver .ensures)
+    deliver-gives (c .before .before .before .before .before .before .before .choose .ensures)
+    (c .before .before .before .before .before .before .choose2 .ensures) (c .before .before .before .before .before .if1 .taken)
+    (c .before .before .deliver .ensures)
 
 choose-requires-3 : tie.Need-choose-requires-3
 choose-requires-3 c κs = search needs
@@ -41,14 +43,20 @@ choose32-requires-2 c κs = search needs
 
 keep-requires : tie.Need-keep-requires
 keep-requires c κs =
-    keep-asks (c .before .before .before .before .before .before .before .before .before .before .pre) (c .before .before .before .before .before .before .choose .ensures) (c .before .before .before .before .if1 .left) (c .before .before .before .choose3 .ensures)
+    keep-asks (c .before .before .before .before .before .before .before .before .before .before .pre)
+    (c .before .before .before .before .before .before .choose .ensures) (c .before .before .before .before .if1 .left)
+    (c .before .before .before .choose3 .ensures)
 
 same-length-3 : tie.Need-same-length-3
 same-length-3 c = search needs
 
 returns-2 : tie.Need-returns-2
 returns-2 c =
-    keep-gives (c .before .before .before .before .before .before .before .before .before .choose .ensures) (c .before .before .before .before .before .before .before .before .choose2 .ensures) (c .before .before .before .before .before .before .before .if1 .left) (c .before .before .before .before .before .before .choose3 .ensures) (c .before .before .before .before .before .choose32 .ensures) (c .before .before .before .before .choose322 .ensures) (c .before .before .keep .ensures)
+    keep-gives (c .before .before .before .before .before .before .before .before .before .choose .ensures)
+    (c .before .before .before .before .before .before .before .before .choose2 .ensures)
+    (c .before .before .before .before .before .before .before .if1 .left) (c .before .before .before .before .before .before .choose3 .ensures)
+    (c .before .before .before .before .before .choose32 .ensures) (c .before .before .before .before .choose322 .ensures)
+    (c .before .before .keep .ensures)
 
 pub accept-spec : {M : Type 1} → statement M
 accept-spec =
