@@ -1,23 +1,19 @@
 -- An accepted fragment: from what the callees of `accept` give to the definition.
-use mathlib.Core.Path.{_≡_, refl, sym, ap, _∙_}
-use mathlib.Core.Logic.{⊎-elim}
-use mathlib.Core.Bool.{Bool, true, false, false≢true}
+use mathlib.Core.Path.{_≡_, sym, ap, _∙_}
+use mathlib.Core.Bool.{Bool, true, false}
 use mathlib.Core.List.{List, _++_}
-use Prim.Native.Nat.{ℕ, _+_, _-_, _*_, _≤_, _<_}
+use Prim.Native.Nat.{ℕ, _+_, _-_, _≤_}
 use native.Mathlib.Omega.{arith}
-use native.Mathlib.Nat.{eq-or-lt-of-le}
-use lib.ListN.{length, getD, take, drop, set, length-append, length-drop, List·getD-eq-default}
+use lib.ListN.{length, take, drop, length-append, length-drop}
 use lib.Seq.{paste, take-paste, drop-paste, take-all, take-length, drop-drop, length-take-le}
 use Rattle.refusals.specs.Check.{pick}
 use Rattle.slots.specs.declared.Slot.{Slot}
-use Rattle.slots.specs.declared.Table.{Table}
-use Rattle.slots.specs.Slots.{free, isBusy, indexOf, lowestFree, tableOf}
-use Rattle.slots.proofs.LookupLaws.{index-le}
+use Rattle.slots.specs.Slots.{free, isBusy}
 use Rattle.reassembly.specs.declared.Arrival.{Arrival}
-use Rattle.reassembly.specs.declared.FragmentResult.{FragmentResult}
+use Rattle.reassembly.specs.declared.Change.{Change}
 use Rattle.reassembly.specs.declared.FragmentAnswer.the-variants.{Held, Whole}
-use Rattle.reassembly.specs.Engine.{putAt, partAt, fragmentTaken, fragmentAnswer}
-use Rattle.reassembly.specs.Accept.{DeliverAsks, DeliverGives, KeepGives, slotOf, AcceptAsks, AcceptGives}
+use Rattle.reassembly.specs.Engine.{putAt, partAt, fragmentTaken}
+use Rattle.reassembly.specs.Accept.{DeliverAsks, DeliverGives, KeepAsks, KeepGives, AcceptAsks, outcomeOf, AcceptGives}
 
 -- ---- copies
 
@@ -46,72 +42,56 @@ two-pastes output a x n la le =
     ∙ ap (λ (l : List ℕ). (a ++ x) ++ l) far
     ∙ sym (ap (λ (l : List ℕ). l ++ drop (0 + length (a ++ x)) output) (take-length (a ++ x)) ∙ ap (λ (k : ℕ). (a ++ x) ++ drop k output) zz)
 
--- ---- where the slot stands
-
--- a busy slot stands in the table, and what it holds in the store
-module _ (slots : List Slot) (i : ℕ) (n : length slots ≡ 8) (le : i ≤ 8) where
-  busy-in : isBusy (getD slots i free) ≡ true → i < 8
-  busy-in b = ⊎-elim (λ h. absurd (false≢true (sym (ap isBusy (List·getD-eq-default slots free {n = i} (omega arith))) ∙ b))) (λ h. h) (eq-or-lt-of-le le)
-
-  held-in : getD slots i free .held ≤ 512 → 512 * i + getD slots i free .held ≤ 4096
-  held-in h = ⊎-elim (λ g. omega (arith, ap (λ (s : Slot). s .held) (List·getD-eq-default slots free {n = i} (omega arith)))) (λ g. omega arith) (eq-or-lt-of-le le)
+-- ---- the calls of `accept`
 
 less : (b : Bool) (n : ℕ) → pick b 0 n ≤ n
 less true n = omega arith
 less false n = omega arith
 
--- ---- the calls of `accept`
-
-module _ (a : Arrival) (t : Table) (payload store output : List ℕ) (asks : AcceptAsks a t payload store output) (n : length (t .slots) ≡ 8) where
-  index-in : indexOf (a .lid) (a .number) (t .slots) ≤ 8
-  index-in = omega (arith, index-le (a .lid) (a .number) (t .slots))
-
-  -- the slot that was read, and the octets before the payload
-  pub slot-is : (slot : Slot) → slot ≡ getD (t .slots) (a .index) free → slot ≡ slotOf a t
-  slot-is slot e = e ∙ ap (λ (k : ℕ). getD (t .slots) k free) (asks .found)
-
-  pub deliver-asks : (before : ℕ) → before ≡ pick (a .begins) 0 (slotOf a t .held)
-      → DeliverAsks (a .index) before payload store output
-  deliver-asks before e =
-      let h = held-in (t .slots) (indexOf (a .lid) (a .number) (t .slots)) n index-in (asks .small .0) in
-      record {
-        slot-in = omega (arith, asks .found, index-in);
-        part-in = omega (arith, asks .found, e, h, asks .long, less (a .begins) (slotOf a t .held));
-        long = asks .long;
-        fits = omega (arith, e, asks .fits);
-        room = asks .room;
-      }
-
-  pub deliver-gives : (r : FragmentResult) (before dropped : ℕ) (output' : List ℕ) → before ≡ pick (a .begins) 0 (slotOf a t .held) → dropped ≡ pick (a .begins) (slotOf a t .held) 0 → a .last ≡ true
-      → DeliverGives t (a .index) before dropped payload store output r output'
-      → AcceptGives a t payload store output r store output'
-  unfolding fragmentTaken
-  deliver-gives r before dropped output' b d l h = record {
-    answer-is = rw l (ap fragmentAnswer (h .answer-is) ∙ λ k. fragmentAnswer (Whole (b k + length payload) (d k)));
-    table-is = rw l (h .table-is ∙ λ k. tableOf (set (t .slots) (asks .found k) free));
-    store-is = rw l refl;
-    output-is = rw l (h .output-is ∙ λ k. putAt output 0 (take (b k) (drop (partAt (asks .found k)) store) ++ payload));
+module _ {a : Arrival} {slot : Slot} {lowest : ℕ} {payload store output : List ℕ} (asks : AcceptAsks a slot lowest payload store output) where
+  pub deliver-asks : {before : ℕ} → before ≡ pick (a .begins) 0 (slot .held) → DeliverAsks (a .index) before payload store output
+  deliver-asks e = record {
+    part-in = omega (arith, less (a .begins) (slot .held));
+    long = asks .long;
+    fits = omega arith;
+    room = asks .room;
   }
 
-  -- the slot taken stands in the table
-  pub taken-in : (taken : ℕ) → a .last ≡ false → taken ≡ pick (isBusy (slotOf a t)) (a .index) (lowestFree t) → taken < 8
-  taken-in taken l e = rw (e, asks .found) (go (isBusy (slotOf a t)) refl)
-    where
-      go : (b : Bool) → isBusy (slotOf a t) ≡ b → pick b (indexOf (a .lid) (a .number) (t .slots)) (lowestFree t) < 8
-      go true e = busy-in (t .slots) (indexOf (a .lid) (a .number) (t .slots)) n index-in e
-      go false e = asks .spare l e
+  pub keep-asks : {before taken : ℕ} → before ≡ pick (a .begins) 0 (slot .held) → a .last ≡ false → taken ≡ pick (isBusy slot) (a .index) lowest
+      → KeepAsks taken before payload store
+  keep-asks b l e = record { slot-in = omega (arith, asks .slot-in l); long = asks .long; fits = omega arith }
 
-  pub keep-gives : (r : FragmentResult) (before dropped taken : ℕ) (slot : Slot) (store' : List ℕ) → before ≡ pick (a .begins) 0 (slotOf a t .held) → dropped ≡ pick (a .begins) (slotOf a t .held) 0
-      → a .last ≡ false → taken ≡ pick (isBusy (slotOf a t)) (a .index) (lowestFree t)
-      → slot ≡ record { lid = a .lid; number = a .number; next = pick (a .begins) 1 (slotOf a t .next + 1); held = pick (a .begins) 0 (slotOf a t .held) + length payload; tick = pick (a .begins) (a .tick) (slotOf a t .tick) }
-      → KeepGives t taken slot before dropped payload store r store'
-      → AcceptGives a t payload store output r store' output
+-- ---- what they give
+
+module _ {a : Arrival} {slot : Slot} {lowest before dropped : ℕ} {payload store output : List ℕ} {r : Change}
+    (b : before ≡ pick (a .begins) 0 (slot .held)) (d : dropped ≡ pick (a .begins) (slot .held) 0) where
+  pub deliver-gives : {output' : List ℕ} → a .last ≡ true → DeliverGives (a .index) before dropped payload store output r output'
+      → AcceptGives a slot lowest payload store output r store output'
   unfolding fragmentTaken
-  keep-gives r before dropped taken slot store' b d l e q h =
-      let at = e ∙ ap (λ (k : ℕ). pick (isBusy (slotOf a t)) k (lowestFree t)) (asks .found) in
-      record {
-        answer-is = rw l (ap fragmentAnswer (h .answer-is) ∙ λ k. fragmentAnswer (Held (b k + length payload) (d k)));
-        table-is = rw l (h .table-is ∙ λ k. tableOf (set (t .slots) (at k) (q k)));
-        store-is = rw l (h .store-is ∙ λ k. putAt store (partAt (at k) + b k) payload);
-        output-is = rw l refl;
-      }
+  deliver-gives l h = record {
+    outcome-is = λ t found at low.
+        let b' = b ∙ ap (λ (s : Slot). pick (a .begins) 0 (s .held)) at in
+        let d' = d ∙ ap (λ (s : Slot). pick (a .begins) (s .held) 0) at in
+        rw l
+        ((λ k. outcomeOf (h .change-is k) t store (h .output-is k))
+        ∙ λ k. outcomeOf (record { answer = Whole (b' k + length payload) (d' k); slot = free; index = found k }) t store
+        (putAt output 0 (take (b' k) (drop (partAt (found k)) store) ++ payload)));
+  }
+
+  pub keep-gives : {taken next tick : ℕ} {store' : List ℕ} → a .last ≡ false → taken ≡ pick (isBusy slot) (a .index) lowest
+      → next ≡ pick (a .begins) 1 (slot .next + 1) → tick ≡ pick (a .begins) (a .tick) (slot .tick)
+      → KeepGives taken (record { lid = a .lid; number = a .number; next = next; held = before + length payload; tick = tick }) before dropped payload store r store'
+      → AcceptGives a slot lowest payload store output r store' output
+  unfolding fragmentTaken
+  keep-gives l e n c h = record {
+    outcome-is = λ t found at low.
+        let b' = b ∙ ap (λ (s : Slot). pick (a .begins) 0 (s .held)) at in
+        let d' = d ∙ ap (λ (s : Slot). pick (a .begins) (s .held) 0) at in
+        let e' = e ∙ λ k. pick (isBusy (at k)) (found k) (low k) in
+        let n' = n ∙ ap (λ (s : Slot). pick (a .begins) 1 (s .next + 1)) at in
+        let c' = c ∙ ap (λ (s : Slot). pick (a .begins) (a .tick) (s .tick)) at in
+        let slot' : _≡_ {A = Slot} _ _ = λ k. record { lid = a .lid; number = a .number; next = n' k; held = b' k + length payload; tick = c' k } in
+        rw l
+        ((λ k. outcomeOf (h .change-is k) t (h .store-is k) output)
+        ∙ λ k. outcomeOf (record { answer = Held (b' k + length payload) (d' k); slot = slot' k; index = e' k }) t (putAt store (partAt (e' k) + b' k) payload) output);
+  }

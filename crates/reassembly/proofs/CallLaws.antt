@@ -1,10 +1,12 @@
 -- The fragment call: from what its callees give to the definition.
-use mathlib.Core.Path.{_≡_, refl, sym, ap, _∙_, subst}
-use mathlib.Core.Bool.{Bool, true, false, not}
+use mathlib.Core.Path.{_≡_, refl, sym, ap, _∙_}
+use mathlib.Core.Logic.{⊎-elim}
+use mathlib.Core.Bool.{Bool, true, false, not, false≢true}
 use mathlib.Core.List.{List, [], _∷_, _++_}
-use Prim.Native.Nat.{ℕ, suc, _+_, _-_, _≤_, _<_}
+use Prim.Native.Nat.{ℕ, suc, _+_, _-_, _*_, _≤_, _<_}
 use native.Mathlib.Omega.{arith}
-use lib.ListN.{length, getD, take, drop, length-drop}
+use native.Mathlib.Nat.{eq-or-lt-of-le}
+use lib.ListN.{length, getD, take, drop, set, length-drop, List·getD-eq-default}
 use lib.Seq.{take-all}
 use lib.Count.{ones}
 use lib.Dec.{eqb}
@@ -13,19 +15,21 @@ use Rattle.refusals.specs.Check.{pick, Check, firstOf}
 use Rattle.header.specs.Header.{headerLength}
 use Rattle.slots.specs.declared.Slot.{Slot}
 use Rattle.slots.specs.declared.Table.{Table}
-use Rattle.slots.specs.Slots.{free, isBusy, bitOf, indexOf, isSound}
+use Rattle.slots.specs.Slots.{slotCount, free, isBusy, bitOf, indexOf, lowestFree, tableOf, isSound}
 use Rattle.slots.specs.Model.{countBusy, firstFree}
 use Rattle.slots.proofs.Tests.{not-f}
+use Rattle.slots.proofs.LookupLaws.{index-le}
 use Rattle.slots.proofs.WordLaws.{ones-word}
 use Rattle.slots.proofs.SoundLaws.{sound-parts, sound-at, held-small, next-held}
 use Rattle.reassembly.specs.declared.FragmentFields.{FragmentFields}
 use Rattle.reassembly.specs.declared.Facts.{Facts}
 use Rattle.reassembly.specs.declared.Arrival.{Arrival}
+use Rattle.reassembly.specs.declared.Change.{Change}
 use Rattle.reassembly.specs.declared.FragmentResult.{FragmentResult}
 use Rattle.reassembly.specs.declared.FragmentAnswer.the-variants.{Refused}
 use Rattle.reassembly.specs.Checks.{fragmentIn, payloadOf, lsduChecks, headerChecks, pairChecks}
-use Rattle.reassembly.specs.Engine.{slotFor, factsFrom, factsIn, fragmentRefusal, fragmentOf, fragmentAnswer, FragmentGives}
-use Rattle.reassembly.specs.Accept.{AcceptAsks, AcceptGives}
+use Rattle.reassembly.specs.Engine.{Outcome, slotFor, factsFrom, factsIn, fragmentRefusal, fragmentOf, fragmentAnswer, FragmentGives}
+use Rattle.reassembly.specs.Accept.{AcceptAsks, outcomeOf, AcceptGives}
 use Rattle.reassembly.proofs.Joins.{lowest-is}
 use Rattle.reassembly.proofs.Passed.{Numbered, first-append, Passed, passed, valid-is, valid-refusal}
 use Rattle.reassembly.proofs.Headed.{header-in, payload-long}
@@ -39,6 +43,18 @@ free-lt (slot ∷ slots) h = go (isBusy slot) (free-lt slots) h
     go true ih g = omega (arith, ih (omega arith))
     go false ih g = omega arith
 
+-- a busy slot stands in the table, and what it holds in the store
+module _ (slots : List Slot) (i : ℕ) (n : length slots ≡ 8) (le : i ≤ 8) where
+  taken-in : (lowest : ℕ) → (isBusy (getD slots i free) ≡ false → lowest < 8) → pick (isBusy (getD slots i free)) i lowest < 8
+  taken-in lowest spare = go (isBusy (getD slots i free)) refl
+    where
+      go : (b : Bool) → isBusy (getD slots i free) ≡ b → pick b i lowest < 8
+      go true b = ⊎-elim (λ h. absurd (false≢true (sym (ap isBusy (List·getD-eq-default slots free {n = i} (omega arith))) ∙ b))) (λ h. h) (eq-or-lt-of-le le)
+      go false b = spare b
+
+  held-in : getD slots i free .held ≤ 512 → 512 * i + getD slots i free .held ≤ 4096
+  held-in h = ⊎-elim (λ g. omega (arith, ap (λ (s : Slot). s .held) (List·getD-eq-default slots free {n = i} (omega arith)))) (λ g. omega arith) (eq-or-lt-of-le le)
+
 abbrev pub arrivalOf : ℕ → ℕ → FragmentFields → ℕ → Arrival
 arrivalOf lid tick f index = record { lid = lid; number = f .number; tick = tick; last = f .last; begins = eqb (f .counter) 0; index = index }
 
@@ -46,61 +62,67 @@ arrivalOf lid tick f index = record { lid = lid; number = f .number; tick = tick
 abbrev pub tailOf : List ℕ → ℕ → List ℕ
 tailOf lsdu octets = take (length lsdu - (length lsdu - octets)) (drop (length lsdu - octets) lsdu)
 
-module _ (lid tick : ℕ) (lsdu : List ℕ) (t : Table) (store output : List ℕ) where
-  abbrev number : ℕ
-  number = fragmentRefusal lid lsdu t (length store) (length output)
-
+-- the two lists of checks, as the callees go through them
+module _ (lid : ℕ) (lsdu : List ℕ) (t : Table) (store output : List ℕ) where
   abbrev early-list : Bool → List Check
   early-list fine = lsduChecks (length store) (length output) (not fine) lid (length lsdu)
 
   abbrev late-list : FragmentFields → Facts → List Check
   late-list f x = headerChecks f ++ pairChecks f x
 
-  -- what the callees found
-  pub record Looked (f : FragmentFields) (index early late : ℕ) : Type 0 where
-    pub fields : f ≡ fragmentIn lsdu
-    pub found : index ≡ indexOf lid (f .number) (t .slots)
-    pub first : early ≡ firstOf (early-list (isSound t))
-    pub second : late ≡ firstOf (late-list (fragmentIn lsdu) (factsIn lid (fragmentIn lsdu .number) t))
-
-  pub early-is : (fine : Bool) (early : ℕ) → fine ≡ isSound t → early ≡ firstOf (early-list fine) → early ≡ firstOf (early-list (isSound t))
-  early-is fine early f e = e ∙ ap (λ (b : Bool). firstOf (early-list b)) f
-
-  pub look : (fine : Bool) (f : FragmentFields) (slot : Slot) (x : Facts) (index early late : ℕ) → fine ≡ isSound t → early ≡ firstOf (early-list fine) → f ≡ fragmentIn lsdu
-      → index ≡ indexOf lid (f .number) (t .slots) → slot ≡ getD (t .slots) index free
-      → x ≡ factsFrom slot t → late ≡ firstOf (late-list f x)
-      → Looked f index early late
-  unfolding factsIn
-  look fine f slot x index early late ef ee fields found es ex el =
-      let at = found ∙ ap (λ (g : FragmentFields). indexOf lid (g .number) (t .slots)) fields in
-      let s = es ∙ ap (λ (k : ℕ). getD (t .slots) k free) at in
-      let facts = ex ∙ ap (λ (y : Slot). factsFrom y t) s in
-      record { fields = fields; found = found; first = early-is fine early ef ee; second = el ∙ λ k. firstOf (late-list (fields k) (facts k)) }
-
-  -- ---- refusals
+  abbrev number : ℕ
+  number = fragmentRefusal lid lsdu t (length store) (length output)
 
   by-lists : number ≡ pick (eqb (firstOf (early-list (isSound t))) 0) (firstOf (late-list (fragmentIn lsdu) (factsIn lid (fragmentIn lsdu .number) t))) (firstOf (early-list (isSound t)))
   unfolding fragmentRefusal Numbered
   by-lists = first-append (early-list (isSound t)) (late-list (fragmentIn lsdu) (factsIn lid (fragmentIn lsdu .number) t)) (omega arith, (omega arith, (omega arith, (omega arith, tt))))
 
-  pub early-refuses : (early : ℕ) → early ≡ firstOf (early-list (isSound t)) → (early ≡ 0 → ⊥) → number ≡ early
-  early-refuses early e z = by-lists ∙ rw (sym e, ne-eqb early 0 z)
+  -- what the callees found
+  pub record Looked (f : FragmentFields) (slot : Slot) (index late : ℕ) : Type 0 where
+    pub fields : f ≡ fragmentIn lsdu
+    pub found : index ≡ indexOf lid (fragmentIn lsdu .number) (t .slots)
+    pub read : slot ≡ slotFor lid (fragmentIn lsdu .number) t
+    pub refusal : number ≡ late
+    pub eight : length (t .slots) ≡ slotCount
 
-  pub late-refuses : {f : FragmentFields} {index early late : ℕ} → Looked f index early late → early ≡ 0 → number ≡ late
-  late-refuses l z = by-lists ∙ rw (sym (l .first), z) (sym (l .second))
+module _ {lid : ℕ} {lsdu : List ℕ} {t : Table} {store output : List ℕ} where
+  pub look : {fine : Bool} {f : FragmentFields} {slot : Slot} {x : Facts} {index early late : ℕ}
+      → length (t .slots) ≡ slotCount → fine ≡ isSound t → early ≡ firstOf (early-list lid lsdu t store output fine) → early ≡ 0
+      → f ≡ fragmentIn lsdu → index ≡ indexOf lid (f .number) (t .slots) → slot ≡ getD (t .slots) index free
+      → x ≡ factsFrom slot t → late ≡ firstOf (late-list lid lsdu t store output f x)
+      → Looked lid lsdu t store output f slot index late
+  unfolding factsIn
+  look eight sound first none fields found at-index facts second =
+      let at = found ∙ ap (λ (g : FragmentFields). indexOf lid (g .number) (t .slots)) fields in
+      let read = at-index ∙ ap (λ (k : ℕ). getD (t .slots) k free) at in
+      let early = sym (first ∙ ap (λ (b : Bool). firstOf (early-list lid lsdu t store output b)) sound) ∙ none in
+      let late = second ∙ λ k. firstOf (late-list lid lsdu t store output (fields k) ((facts ∙ ap (λ (y : Slot). factsFrom y t) read) k)) in
+      record { fields = fields; found = at; read = read; refusal = by-lists lid lsdu t store output ∙ rw early (sym late); eight = eight }
 
-  pub refusal-gives : (n : ℕ) (r : FragmentResult) → number ≡ n → (n ≡ 0 → ⊥) → (r .answer ≡ Refused n) × (r .table ≡ t) → FragmentGives lid tick lsdu t store output r store output
+  -- ---- refusals
+
+  pub refusal-gives : {tick n : ℕ} {r : FragmentResult} → number lid lsdu t store output ≡ n → (n ≡ 0 → ⊥)
+      → (r .answer ≡ Refused n) × (r .table ≡ t) → FragmentGives lid tick lsdu t store output r store output
   unfolding fragmentOf
-  refusal-gives n r e z h =
-      let q = ne-eqb number 0 (λ k. z (sym e ∙ k)) in
+  refusal-gives e z h =
+      let q = ne-eqb (number lid lsdu t store output) 0 (λ k. z (sym e ∙ k)) in
       record { answer-is = rw q (ap fragmentAnswer (h .0) ∙ ap (λ (k : ℕ). fragmentAnswer (Refused k)) (sym e)); table-is = rw q (h .1); store-is = rw q; output-is = rw q }
+
+  pub early-gives : {tick early : ℕ} {fine : Bool} {r : FragmentResult} → fine ≡ isSound t
+      → early ≡ firstOf (early-list lid lsdu t store output fine) → (early ≡ 0 → ⊥)
+      → (r .answer ≡ Refused early) × (r .table ≡ t) → FragmentGives lid tick lsdu t store output r store output
+  early-gives {early = early} sound first z h =
+      let e = first ∙ ap (λ (b : Bool). firstOf (early-list lid lsdu t store output b)) sound in
+      refusal-gives (by-lists lid lsdu t store output ∙ rw (sym e, ne-eqb early 0 z)) z h
 
   -- ---- no refusal
 
-  module _ {f : FragmentFields} {index early late : ℕ} (l : Looked f index early late) (no-early : early ≡ 0) (no-late : late ≡ 0) where
+  module _ {f : FragmentFields} {slot : Slot} {index late : ℕ} (l : Looked lid lsdu t store output f slot index late) (no-late : late ≡ 0) where
     clear : Passed (length store) (length output) lid (not (isSound t)) (fragmentIn lsdu) (factsIn lid (fragmentIn lsdu .number) t)
     unfolding fragmentRefusal
-    clear = passed (length store) (length output) lid (length lsdu) (not (isSound t)) (fragmentIn lsdu) (factsIn lid (fragmentIn lsdu .number) t) (late-refuses l no-early ∙ no-late)
+    clear =
+        passed (length store) (length output) lid (length lsdu) (not (isSound t)) (fragmentIn lsdu) (factsIn lid (fragmentIn lsdu .number) t)
+        (l .refusal ∙ no-late)
 
     octets-are : f .octets ≡ length (payloadOf lsdu)
     octets-are = ap (λ (x : FragmentFields). x .octets) (l .fields ∙ valid-is lsdu (clear .valid))
@@ -114,40 +136,47 @@ module _ (lid tick : ℕ) (lsdu : List ℕ) (t : Table) (store output : List ℕ
         let start : length lsdu - f .octets ≡ headerLength lsdu = omega (arith, octets-are, payload-long lsdu, header-in lsdu (valid-refusal lsdu (clear .valid))) in
         rw start (take-all (length lsdu - headerLength lsdu) (drop (headerLength lsdu) lsdu) (omega (arith, length-drop (headerLength lsdu) lsdu)))
 
-    asks-at : length (t .slots) ≡ 8 → AcceptAsks (arrivalOf lid tick (fragmentIn lsdu) (indexOf lid (fragmentIn lsdu .number) (t .slots))) t (payloadOf lsdu) store output
+    asks-at : (tick : ℕ)
+        → AcceptAsks (arrivalOf lid tick (fragmentIn lsdu) (indexOf lid (fragmentIn lsdu .number) (t .slots)))
+        (slotFor lid (fragmentIn lsdu .number) t) (lowestFree t) (payloadOf lsdu) store output
     unfolding factsIn
-    asks-at n =
+    asks-at tick =
+        let n = l .eight in
         let s = sound-parts t (not-f (isSound t) (clear .table-sound)) in
+        let index = indexOf lid (fragmentIn lsdu .number) (t .slots) in
         let slot = slotFor lid (fragmentIn lsdu .number) t in
-        let each = sound-at (t .slots) (indexOf lid (fragmentIn lsdu .number) (t .slots)) (s .each) in
+        let each = sound-at (t .slots) index (s .each) in
         let octets = ap (λ (x : FragmentFields). x .octets) (valid-is lsdu (clear .valid)) in
+        let le : index ≤ 8 = omega (arith, index-le lid (fragmentIn lsdu .number) (t .slots)) in
+        let count = ap ones (s .word) ∙ ones-word (t .slots) in
+        let spare : fragmentIn lsdu .last ≡ false → isBusy slot ≡ false → firstFree (t .slots) < length (t .slots) =
+        λ last shut. free-lt (t .slots) (omega (arith, leb-false 8 (ones (t .busy)) (clear .room last shut), count)) in
         record {
-          found = refl;
           long = clear .store-long;
           room = clear .output-long;
+          part-in = held-in (t .slots) index n le (held-small slot each);
+          few = omega (arith, held-small slot each, next-held slot each);
           fits = omega (arith, octets, clear .fits);
-          small = (held-small slot each, omega (arith, held-small slot each, next-held slot each));
-          spare = λ a b. omega (arith, n, lowest-is t (s .word) n, free-lt (t .slots) (omega (arith, n, leb-false 8 (ones (t .busy)) (clear .room a b), ap ones (s .word), ones-word (t .slots))));
+          slot-in = λ last. taken-in (t .slots) index n le (lowestFree t) (λ shut. omega (arith, lowest-is t (s .word) n, spare last shut));
         }
 
-    arrival-is : arrivalOf lid tick f index ≡ arrivalOf lid tick (fragmentIn lsdu) (indexOf lid (fragmentIn lsdu .number) (t .slots))
-    arrival-is =
-        let at = l .found ∙ ap (λ (x : FragmentFields). indexOf lid (x .number) (t .slots)) (l .fields) in
-        λ k. arrivalOf lid tick (l .fields k) (at k)
+    pub asks : {tick lowest : ℕ} → lowest ≡ lowestFree t
+        → AcceptAsks (arrivalOf lid tick f index) slot lowest (tailOf lsdu (f .octets)) store output
+    asks {tick = tick} low =
+        coe 1 0 (k. AcceptAsks (arrivalOf lid tick (l .fields k) (l .found k)) (l .read k) (low k) (tail-is k) store output) (asks-at tick)
 
-    pub asks : length (t .slots) ≡ 8 → AcceptAsks (arrivalOf lid tick f index) t (tailOf lsdu (f .octets)) store output
-    asks n = rw (arrival-is, tail-is) (asks-at n)
-
-    pub gives : (r : FragmentResult) (store' output' : List ℕ) → AcceptGives (arrivalOf lid tick f index) t (tailOf lsdu (f .octets)) store output r store' output'
-        → FragmentGives lid tick lsdu t store output r store' output'
+    pub gives : {tick lowest : ℕ} {r : Change} {after : Table} {store' output' : List ℕ} → lowest ≡ lowestFree t
+        → AcceptGives (arrivalOf lid tick f index) slot lowest (tailOf lsdu (f .octets)) store output r store' output'
+        → after ≡ tableOf (set (t .slots) (r .index) (r .slot))
+        → FragmentGives lid tick lsdu t store output (record { answer = r .answer; table = after }) store' output'
     unfolding fragmentOf
-    gives r store' output' g =
-        let q = eq-eqb number 0 (late-refuses l no-early ∙ no-late) in
-        let h = moved g in
-        record { answer-is = rw q (h .answer-is); table-is = rw q (h .table-is); store-is = rw q (h .store-is); output-is = rw q (h .output-is) }
-      where
-        moved : AcceptGives (arrivalOf lid tick f index) t (tailOf lsdu (f .octets)) store output r store' output'
-            → AcceptGives (arrivalOf lid tick (fragmentIn lsdu) (indexOf lid (fragmentIn lsdu .number) (t .slots))) t (payloadOf lsdu) store output r store' output'
-        moved g =
-            subst (λ (x : List ℕ). AcceptGives (arrivalOf lid tick (fragmentIn lsdu) (indexOf lid (fragmentIn lsdu .number) (t .slots))) t x store output r store' output') tail-is
-            (subst (λ (x : Arrival). AcceptGives x t (tailOf lsdu (f .octets)) store output r store' output') arrival-is g)
+    gives {tick = tick} {r = r} {store' = store'} {output' = output'} low g e =
+        let moved = coe 0 1 (k. AcceptGives (arrivalOf lid tick (l .fields k) (l .found k)) (l .read k) (low k) (tail-is k) store output r store' output') g in
+        let accepted = eq-eqb (number lid lsdu t store output) 0 (l .refusal ∙ no-late) in
+        let h : outcomeOf r t store' output' ≡ fragmentOf lid tick lsdu t store output = rw accepted (moved .outcome-is t refl refl refl) in
+        record {
+          answer-is = ap (λ (o : Outcome). o .answer) h;
+          table-is = e ∙ ap (λ (o : Outcome). o .table) h;
+          store-is = ap (λ (o : Outcome). o .store) h;
+          output-is = ap (λ (o : Outcome). o .output) h;
+        }

@@ -10,23 +10,21 @@ use Rattle.slots.specs.declared.Slot.{Slot}
 use Rattle.slots.specs.declared.Table.{Table}
 use Rattle.slots.specs.Slots.{slotCount, slotOctets, free, isBusy, indexOf, lowestFree, tableOf}
 use Rattle.reassembly.specs.declared.Arrival.{Arrival}
+use Rattle.reassembly.specs.declared.Change.{Change}
 use Rattle.reassembly.specs.declared.FragmentAnswer.the-variants.{Held, Whole}
-use Rattle.reassembly.specs.declared.FragmentResult.{FragmentResult}
 use Rattle.reassembly.specs.Checks.{storeOctets, outputOctets}
 use Rattle.reassembly.specs.Engine.{Outcome, putAt, partAt, slotFor, fragmentTaken, fragmentAnswer}
 
 -- ---- a last fragment
 
 pub record DeliverAsks (index before : ℕ) (payload store output : List ℕ) : Type 0 where
-  pub slot-in : index ≤ slotCount
   pub part-in : partAt index + before ≤ length store
   pub long : length store ≡ storeOctets
   pub fits : before + length payload ≤ slotOctets
   pub room : outputOctets ≤ length output
 
-pub record DeliverGives (table : Table) (index before dropped : ℕ) (payload store output : List ℕ) (r : FragmentResult) (output' : List ℕ) : Type 0 where
-  pub answer-is : r .answer ≡ Whole (before + length payload) dropped
-  pub table-is : r .table ≡ tableOf (set (table .slots) index free)
+pub record DeliverGives (index before dropped : ℕ) (payload store output : List ℕ) (r : Change) (output' : List ℕ) : Type 0 where
+  pub change-is : r ≡ record { answer = Whole (before + length payload) dropped; slot = free; index = index }
   pub output-is : output' ≡ putAt output 0 (take before (drop (partAt index) store) ++ payload)
 
 -- ---- any other
@@ -36,29 +34,27 @@ pub record KeepAsks (index before : ℕ) (payload store : List ℕ) : Type 0 whe
   pub long : length store ≡ storeOctets
   pub fits : before + length payload ≤ slotOctets
 
-pub record KeepGives (table : Table) (index : ℕ) (slot : Slot) (before dropped : ℕ) (payload store : List ℕ) (r : FragmentResult) (store' : List ℕ) : Type 0 where
-  pub answer-is : r .answer ≡ Held (before + length payload) dropped
-  pub table-is : r .table ≡ tableOf (set (table .slots) index slot)
+pub record KeepGives (index : ℕ) (slot : Slot) (before dropped : ℕ) (payload store : List ℕ) (r : Change) (store' : List ℕ) : Type 0 where
+  pub change-is : r ≡ record { answer = Held (before + length payload) dropped; slot = slot; index = index }
   pub store-is : store' ≡ putAt store (partAt index + before) payload
 
 -- ---- both
 
-abbrev pub slotOf : Arrival → Table → Slot
-slotOf a table = slotFor (a .lid) (a .number) table
-
-pub record AcceptAsks (a : Arrival) (table : Table) (payload store output : List ℕ) : Type 0 where
-  pub found : a .index ≡ indexOf (a .lid) (a .number) (table .slots)
+pub record AcceptAsks (a : Arrival) (slot : Slot) (lowest : ℕ) (payload store output : List ℕ) : Type 0 where
   pub long : length store ≡ storeOctets
   pub room : outputOctets ≤ length output
-  pub fits : pick (a .begins) 0 (slotOf a table .held) + length payload ≤ slotOctets
-  pub small : (slotOf a table .held ≤ slotOctets) × (slotOf a table .next ≤ slotOctets)
-  pub spare : a .last ≡ false → isBusy (slotOf a table) ≡ false → lowestFree table < slotCount
+  pub part-in : partAt (a .index) + slot .held ≤ storeOctets
+  pub few : slot .next ≤ slotOctets
+  pub fits : pick (a .begins) 0 (slot .held) + length payload ≤ slotOctets
+  pub slot-in : a .last ≡ false → pick (isBusy slot) (a .index) lowest < slotCount
 
-abbrev pub acceptOf : Arrival → Table → (payload store output : List ℕ) → Outcome
-acceptOf a table payload store output = fragmentTaken (a .last) (a .begins) (a .lid) (a .number) (a .tick) payload table store output
+-- what a change of this table comes to
+abbrev pub outcomeOf : Change → Table → (store output : List ℕ) → Outcome
+outcomeOf r table store output =
+    record { answer = fragmentAnswer (r .answer); table = tableOf (set (table .slots) (r .index) (r .slot)); store = store; output = output }
 
-pub record AcceptGives (a : Arrival) (table : Table) (payload store output : List ℕ) (r : FragmentResult) (store' output' : List ℕ) : Type 0 where
-  pub answer-is : fragmentAnswer (r .answer) ≡ acceptOf a table payload store output .answer
-  pub table-is : r .table ≡ acceptOf a table payload store output .table
-  pub store-is : store' ≡ acceptOf a table payload store output .store
-  pub output-is : output' ≡ acceptOf a table payload store output .output
+-- of each table that has the pair's slot there, and its lowest free one
+pub record AcceptGives (a : Arrival) (slot : Slot) (lowest : ℕ) (payload store output : List ℕ) (r : Change) (store' output' : List ℕ) : Type 0 where
+  pub outcome-is : (table : Table) → a .index ≡ indexOf (a .lid) (a .number) (table .slots) → slot ≡ slotFor (a .lid) (a .number) table
+      → lowest ≡ lowestFree table
+      → outcomeOf r table store' output' ≡ fragmentTaken (a .last) (a .begins) (a .lid) (a .number) (a .tick) payload table store output

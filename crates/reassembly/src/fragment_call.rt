@@ -83,7 +83,8 @@ pub fn fragment(
     let fragment = fragment_in(lsdu);
     let number = fragment.number;
     let index = slots::find(table, lid, number);
-    let facts = facts_of(slots::slot_at(table, index), table);
+    let slot = slots::slot_at(table, index);
+    let facts = facts_of(slot, table);
     let late = fragment_refusal(fragment, facts);
     if late != 0 {
         return refusal(late, table);
@@ -98,5 +99,10 @@ pub fn fragment(
         begins: fragment.counter == 0,
         index,
     };
-    accept(arrival, table, payload, store, output)
+    let lowest = slots::lowest_free(table);
+    let change = accept(arrival, slot, lowest, payload, store, output);
+    let answer = change.answer;
+    let changed = change.slot;
+    let table = slots::with_slot(table, change.index, changed);
+    FragmentResult { answer, table }
 }

@@ -5,6 +5,7 @@ mod checks;
 mod copy;
 mod fragment_call;
 
+use slots::Slot;
 use slots::Table;
 
 // The limits of a call; those of the slots are in the crate `slots`.
@@ -31,28 +32,35 @@ pub struct FragmentResult {
 
 // What the checks ask of a fragment: whether its header is valid, its fields, and the octets of its payload.
 pub(crate) struct FragmentFields {
+    pub octets: usize,
+    pub counter: u32,
+    pub number: u8,
     pub valid: bool,
     pub last: bool,
-    pub number: u8,
-    pub counter: u32,
-    pub octets: usize,
 }
 
 // What the checks ask of its pair: whether it is open, the expected counter, the octets held; and whether no slot is free.
 pub(crate) struct Facts {
-    pub is_open: bool,
-    pub expected: u32,
     pub held: usize,
+    pub expected: u32,
+    pub is_open: bool,
     pub full: bool,
 }
 
 // A fragment that no check refused, with the index of its pair's slot.
 pub(crate) struct Arrival {
+    pub index: usize,
     pub lid: u32,
-    pub number: u8,
     pub tick: u32,
+    pub number: u8,
     pub last: bool,
     pub begins: bool,
+}
+
+// What such a fragment is answered, and the one slot that it changes: what it is then, and its index.
+pub(crate) struct Change {
+    pub answer: FragmentAnswer,
+    pub slot: Slot,
     pub index: usize,
 }
 

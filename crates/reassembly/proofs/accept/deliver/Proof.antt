@@ -1,12 +1,10 @@
 -- What is held goes to the front of the output and the payload behind it.
-use mathlib.Core.Path.{refl, ap, _∙_}
+use mathlib.Core.Path.{ap, _∙_}
 use mathlib.Core.List.{List}
 use Prim.Native.Nat.{ℕ, _*_}
 use native.Mathlib.Omega.{arith}
-use lib.ListN.{length, take, drop, set, length-drop}
+use lib.ListN.{length, take, drop, length-drop}
 use lib.Seq.{paste, length-take-le}
-use Rattle.slots.specs.declared.Slot.{Slot}
-use Rattle.slots.specs.Slots.{tableOf}
 use Rattle.reassembly.proofs.Accepting.{two-pastes}
 use borrow.Author.Needs.{needs}
 use Rattle.reassembly.proofs.accept.deliver.Statement.{statement}
@@ -27,22 +25,18 @@ add-octets c = search needs
 free-slot-requires : tie.Need-free-slot-requires
 free-slot-requires c κs = search needs
 
-with-slot-requires : tie.Need-with-slot-requires
-with-slot-requires c κs = search needs
-
 same-length : tie.Need-same-length
 same-length c = search needs
 
 returns : tie.Need-returns
 returns c =
-    let a = c .before .before .before .before .before .before .before .before .before .before .before .before .before .args in
-    let pre = c .before .before .before .before .before .before .before .before .before .before .before .before .before .pre in
+    let a = c .before .before .before .before .before .before .before .before .before .before .before .before .args in
+    let pre = c .before .before .before .before .before .before .before .before .before .before .before .before .pre in
     let part = drop (512 * a .index) (a .store .now) in
     let long = length-take-le (a .before) part (omega (arith, length-drop (512 * a .index) (a .store .now))) in
-    let table = c .with-slot .ensures ∙ ap (λ (s : Slot). tableOf (set (a .table .slots) (a .index) s)) (c .before .free-slot .ensures) in
-    let front = ap (λ (l : List ℕ). paste l (a .before) (a .payload .now) (length (a .payload .now))) (c .before .before .before .before .before .before .before .before .copy-held .ensures) in
-    let written = c .before .before .before .before .copy .ensures ∙ front ∙ two-pastes (a .output .now) (take (a .before) part) (a .payload .now) (a .before) long (omega arith) in
-    record { answer-is = refl; table-is = table; output-is = written }
+    let front = ap (λ (l : List ℕ). paste l (a .before) (a .payload .now) (length (a .payload .now))) (c .before .before .before .before .before .before .before .copy-held .ensures) in
+    let written = c .before .before .before .copy .ensures ∙ front ∙ two-pastes (a .output .now) (take (a .before) part) (a .payload .now) (a .before) long (omega arith) in
+    record { change-is = rw (c .free-slot .ensures); output-is = written }
 
 pub deliver-spec : {M : Type 1} → statement M
 deliver-spec =
@@ -53,6 +47,5 @@ deliver-spec =
     copy-requires
     add-octets
     free-slot-requires
-    with-slot-requires
     same-length
     returns)

@@ -1,9 +1,7 @@
 -- The two lists of checks are one behind the other, and what no check refuses is taken as defined; demand 3 holds of every run of such calls.
-use mathlib.Core.Path.{_≡_}
-use lib.ListN.{length}
 use Rattle.slots.proofs.Tests.{long}
 use Rattle.reassembly.proofs.Theorem.{demanded}
-use Rattle.reassembly.proofs.CallLaws.{early-is, early-refuses, look, late-refuses, refusal-gives, octets-in, asks, gives}
+use Rattle.reassembly.proofs.CallLaws.{Looked, look, refusal-gives, early-gives, octets-in, asks, gives}
 use borrow.Author.Needs.{needs}
 use Rattle.reassembly.proofs.fragment_call.fragment.Statement.{statement}
 use Rattle.reassembly.proofs.fragment_call.fragment.Tie as tie
@@ -18,10 +16,11 @@ refusal-requires : tie.Need-refusal-requires
 refusal-requires c κs = search needs
 
 returns : tie.Need-returns
-returns c =
-    let a = c .before .before .before .before .before .before .before .args in
-    let early = early-is (a .lid) (a .tick) (a .lsdu .now) (a .table) (a .store .now) (a .output .now) (c .before .before .before .sound .result) (c .before .before .lsdu-refusal .result) (c .before .before .before .sound .ensures) (c .before .before .lsdu-refusal .ensures) in
-    (demanded, refusal-gives (a .lid) (a .tick) (a .lsdu .now) (a .table) (a .store .now) (a .output .now) (c .before .before .lsdu-refusal .result) (c .refusal .result) (early-refuses (a .lid) (a .tick) (a .lsdu .now) (a .table) (a .store .now) (a .output .now) (c .before .before .lsdu-refusal .result) early (c .before .if1 .taken)) (c .before .if1 .taken) (c .refusal .ensures))
+returns c = (
+  demanded,
+  early-gives (c .before .before .before .sound .ensures) (c .before .before .lsdu-refusal .ensures) (c .before .if1 .taken)
+      (c .refusal .ensures),
+)
 
 fragment-in-requires : tie.Need-fragment-in-requires
 fragment-in-requires c κs = search needs
@@ -41,19 +40,21 @@ fragment-refusal-requires c κs = search needs
 refusal-requires-2 : tie.Need-refusal-requires-2
 refusal-requires-2 c κs = search needs
 
+-- what the callees found, once all checks are done
+looked : (c : tie.After-fragment-refusal) → let a = c .before .before .before .before .before .before .before .before .before .before .before .args in
+    Looked (a .lid) (a .lsdu .now) (a .table) (a .store .now) (a .output .now) (c .before .before .before .before .fragment-in .result)
+    (c .before .before .slot-at .result) (c .before .before .before .find .result) (c .fragment-refusal .result)
+looked c =
+    look (search (long, c .before .before .before .before .before .before .before .before .before .before .before .good)) (c .before .before .before .before .before .before .before .sound .ensures)
+    (c .before .before .before .before .before .before .lsdu-refusal .ensures) (c .before .before .before .before .before .if1 .left)
+    (c .before .before .before .before .fragment-in .ensures) (c .before .before .before .find .ensures) (c .before .before .slot-at .ensures)
+    (c .before .facts-of .ensures) (c .fragment-refusal .ensures)
+
 returns-2 : tie.Need-returns-2
-returns-2 c =
-    let a = c .before .before .before .before .before .before .before .before .before .before .before .before .before .args in
-    let found = look (a .lid) (a .tick) (a .lsdu .now) (a .table) (a .store .now) (a .output .now) (c .before .before .before .before .before .before .before .before .before .sound .result) (c .before .before .before .before .before .before .fragment-in .result) (c .before .before .before .before .slot-at .result) (c .before .before .before .facts-of .result) (c .before .before .before .before .before .find .result) (c .before .before .before .before .before .before .before .before .lsdu-refusal .result) (c .before .before .fragment-refusal .result)
-    (c .before .before .before .before .before .before .before .before .before .sound .ensures) (c .before .before .before .before .before .before .before .before .lsdu-refusal .ensures) (c .before .before .before .before .before .before .fragment-in .ensures) (c .before .before .before .before .before .find .ensures) (c .before .before .before .before .slot-at .ensures) (c .before .before .before .facts-of .ensures) (c .before .before .fragment-refusal .ensures) in
-    (demanded, refusal-gives (a .lid) (a .tick) (a .lsdu .now) (a .table) (a .store .now) (a .output .now) (c .before .before .fragment-refusal .result) (c .refusal2 .result) (late-refuses (a .lid) (a .tick) (a .lsdu .now) (a .table) (a .store .now) (a .output .now) found (c .before .before .before .before .before .before .before .if1 .left)) (c .before .if2 .taken) (c .refusal2 .ensures))
+returns-2 c = (demanded, refusal-gives (looked (c .before .before) .refusal) (c .before .if2 .taken) (c .refusal2 .ensures))
 
 sub-start : tie.Need-sub-start
-sub-start c =
-    let a = c .before .before .before .before .before .before .before .before .before .before .before .before .before .args in
-    let found = look (a .lid) (a .tick) (a .lsdu .now) (a .table) (a .store .now) (a .output .now) (c .before .before .before .before .before .before .before .before .before .sound .result) (c .before .before .before .before .before .before .fragment-in .result) (c .before .before .before .before .slot-at .result) (c .before .before .before .facts-of .result) (c .before .before .before .before .before .find .result) (c .before .before .before .before .before .before .before .before .lsdu-refusal .result) (c .before .before .fragment-refusal .result)
-    (c .before .before .before .before .before .before .before .before .before .sound .ensures) (c .before .before .before .before .before .before .before .before .lsdu-refusal .ensures) (c .before .before .before .before .before .before .fragment-in .ensures) (c .before .before .before .before .before .find .ensures) (c .before .before .before .before .slot-at .ensures) (c .before .before .before .facts-of .ensures) (c .before .before .fragment-refusal .ensures) in
-    octets-in (a .lid) (a .tick) (a .lsdu .now) (a .table) (a .store .now) (a .output .now) found (c .before .before .before .before .before .before .before .if1 .left) (c .before .if2 .left)
+sub-start c = octets-in (looked (c .before .before)) (c .before .if2 .left)
 
 sub-payload : tie.Need-sub-payload
 sub-payload c = search needs
@@ -64,13 +65,14 @@ part-payload-start c = search needs
 part-payload-end : tie.Need-part-payload-end
 part-payload-end c = search needs
 
+lowest-free-requires : tie.Need-lowest-free-requires
+lowest-free-requires c κs = search needs
+
 accept-requires : tie.Need-accept-requires
-accept-requires c κs =
-    let a = c .before .before .before .before .before .before .before .before .before .before .before .before .before .before .before .before .before .args in
-    let found = look (a .lid) (a .tick) (a .lsdu .now) (a .table) (a .store .now) (a .output .now) (c .before .before .before .before .before .before .before .before .before .before .before .before .before .sound .result) (c .before .before .before .before .before .before .before .before .before .before .fragment-in .result) (c .before .before .before .before .before .before .before .before .slot-at .result) (c .before .before .before .before .before .before .before .facts-of .result) (c .before .before .before .before .before .before .before .before .before .find .result) (c .before .before .before .before .before .before .before .before .before .before .before .before .lsdu-refusal .result) (c .before .before .before .before .before .before .fragment-refusal .result)
-    (c .before .before .before .before .before .before .before .before .before .before .before .before .before .sound .ensures) (c .before .before .before .before .before .before .before .before .before .before .before .before .lsdu-refusal .ensures) (c .before .before .before .before .before .before .before .before .before .before .fragment-in .ensures) (c .before .before .before .before .before .before .before .before .before .find .ensures) (c .before .before .before .before .before .before .before .before .slot-at .ensures) (c .before .before .before .before .before .before .before .facts-of .ensures) (c .before .before .before .before .before .before .fragment-refusal .ensures) in
-    let n : length (a .table .slots) ≡ 8 = search (long, c .before .before .before .before .before .before .before .before .before .before .before .before .before .before .before .before .before .good) in
-    asks (a .lid) (a .tick) (a .lsdu .now) (a .table) (a .store .now) (a .output .now) found (c .before .before .before .before .before .before .before .before .before .before .before .if1 .left) (c .before .before .before .before .before .if2 .left) n
+accept-requires c κs = asks (looked (c .before .before .before .before .before .before .before)) (c .before .before .before .before .before .before .if2 .left) (c .before .before .lowest-free .ensures)
+
+with-slot-requires : tie.Need-with-slot-requires
+with-slot-requires c κs = search needs
 
 same-length : tie.Need-same-length
 same-length c = search needs
@@ -79,11 +81,13 @@ same-length-2 : tie.Need-same-length-2
 same-length-2 c = search needs
 
 returns-3 : tie.Need-returns-3
-returns-3 c =
-    let a = c .before .before .before .before .before .before .before .before .before .before .before .before .before .before .before .before .before .before .before .before .before .before .args in
-    let found = look (a .lid) (a .tick) (a .lsdu .now) (a .table) (a .store .now) (a .output .now) (c .before .before .before .before .before .before .before .before .before .before .before .before .before .before .before .before .before .before .sound .result) (c .before .before .before .before .before .before .before .before .before .before .before .before .before .before .before .fragment-in .result) (c .before .before .before .before .before .before .before .before .before .before .before .before .before .slot-at .result) (c .before .before .before .before .before .before .before .before .before .before .before .before .facts-of .result) (c .before .before .before .before .before .before .before .before .before .before .before .before .before .before .find .result) (c .before .before .before .before .before .before .before .before .before .before .before .before .before .before .before .before .before .lsdu-refusal .result) (c .before .before .before .before .before .before .before .before .before .before .before .fragment-refusal .result)
-    (c .before .before .before .before .before .before .before .before .before .before .before .before .before .before .before .before .before .before .sound .ensures) (c .before .before .before .before .before .before .before .before .before .before .before .before .before .before .before .before .before .lsdu-refusal .ensures) (c .before .before .before .before .before .before .before .before .before .before .before .before .before .before .before .fragment-in .ensures) (c .before .before .before .before .before .before .before .before .before .before .before .before .before .before .find .ensures) (c .before .before .before .before .before .before .before .before .before .before .before .before .before .slot-at .ensures) (c .before .before .before .before .before .before .before .before .before .before .before .before .facts-of .ensures) (c .before .before .before .before .before .before .before .before .before .before .before .fragment-refusal .ensures) in
-    (demanded, gives (a .lid) (a .tick) (a .lsdu .now) (a .table) (a .store .now) (a .output .now) found (c .before .before .before .before .before .before .before .before .before .before .before .before .before .before .before .before .if1 .left) (c .before .before .before .before .before .before .before .before .before .before .if2 .left) (c .before .before .before .before .accept .result) _ _ (c .before .before .before .before .accept .ensures))
+returns-3 c = (
+  demanded,
+  gives (looked (c .before .before .before .before .before .before .before .before .before .before .before .before .before .before))
+      (c .before .before .before .before .before .before .before .before .before .before .before .before .before .if2 .left)
+      (c .before .before .before .before .before .before .before .before .before .lowest-free .ensures)
+      (c .before .before .before .before .before .before .accept .ensures) (c .with-slot .ensures),
+)
 
 pub fragment-spec : {M : Type 1} → statement M
 fragment-spec =
@@ -104,7 +108,9 @@ fragment-spec =
     sub-payload
     part-payload-start
     part-payload-end
+    lowest-free-requires
     accept-requires
+    with-slot-requires
     same-length
     same-length-2
     returns-3)
