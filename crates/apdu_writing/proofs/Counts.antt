@@ -1,6 +1,6 @@
 -- Counts, container kinds and lists of ids: which values are in range, and what they bring.
 -- Assumes nothing.
-use Prim.Native.Nat.{ℕ, suc, _+_, _-_, _*_, _/_, _%_, _≤_, _<_}
+use Prim.Native.Nat.{ℕ, zero, suc, _+_, _-_, _*_, _/_, _%_, _≤_, _<_}
 use mathlib.Core.Path.{_≡_, refl, ap, sym, _∙_}
 use mathlib.Core.List.{List, [], _∷_, _++_}
 use mathlib.Core.Bool.{Bool, true, false, _&&_, _||_, not}
@@ -10,7 +10,7 @@ use native.Mathlib.Omega.{arith}
 use lib.ListN.{length, take, drop, length-drop}
 use lib.Seq.{drop-drop, take-all}
 use lib.Dec.{ltb, leb, eqb}
-use borrow.Author.Tests.{leb-true, leb-false, lt-ltb, le-ltb, eqb-true, eqb-false, not-true}
+use borrow.Author.Tests.{leb-true, leb-false, lt-ltb, le-ltb, eqb-true, eqb-false, not-true, not-false}
 use Rattle.refusals.specs.Check.{pick, firstOf}
 use Rattle.refusals.proofs.Tests.{by-cases, and-right}
 use Rattle.bits.specs.Bits.{bits, number, field, writeField, readField}
@@ -146,6 +146,10 @@ module _ (s : List ℕ) (at : ℕ) where
       (leaf integer (fields (number 1 l ∷ number 7 (drop 1 l) ∷ [])) p
       (in-number integer (1 ∷ 7 ∷ []) (number 1 l ∷ number 7 (drop 1 l) ∷ []) n (ltb n 128) (c .room) o (c .at) refl (omega arith) (id-fits n (c .room) e) (λ g. id-packed n e)) refl)
 
+pub room-stays : {w : ℕ} {fine : Bool} {c r : Quill} {x o o' : List ℕ} → Put w fine c r x o o' → r .room ≡ c .room
+unfolding behind
+room-stays p = ap (λ (z : Quill). z .room) (p .is)
+
 -- an id read behind the first octets
 pub id-behind : (s : List ℕ) (start i : ℕ) {n : ℕ} {c r : Quill} {o o' : List ℕ} → start / 8 ≤ length s
     → n ≡ readField (take (length s - start / 8) (drop (start / 8) s)) (start % 8 + 8 * i) 8 → Put 8 (ltb n 128) c r (writeField o (c .at) 8 n) o o'
@@ -203,6 +207,20 @@ ids-more i {s} {start} {n} p h q =
     let k : i + 1 ≡ suc i = add-one i in
     record { so = rw k (then (rw m at (p .so)) (before (times (n - suc i) (integer ∷ [])) q)) }
 
+-- a good quill is its place and its room
+good : (d : Quill) → not (d .ok) ≡ false → quill (d .at) (d .room) true ≡ d
+good d h = ap (λ (b : Bool). quill (d .at) (d .room) b) (sym (not-false (d .ok) h))
+
+-- a turn that goes well hands on its place alone
+pub ids-on : (i room : ℕ) {s : List ℕ} {start n : ℕ} {d e : Quill} (f : Quill) {o o₂ o₃ : List ℕ} → Ids s start n i d e o o₂ → i < n
+    → Puts true (integer ∷ []) e f o₂ o₃ (idAt s (start + 8 * i) ∷ []) → f .room ≡ room → not (f .ok) ≡ false → Ids s start n (i + 1) d (quill (f .at) room true) o o₃
+ids-on i room f p h q r ok = rw (ap (λ (k : ℕ). quill (f .at) k true) (sym r) ∙ good f ok) (ids-more i p h q)
+
+-- behind an id that is out of range nothing is written
+ids-idle : (k i : ℕ) {s : List ℕ} {start n : ℕ} {d e : Quill} {o o' : List ℕ} → Ids s start n i d e o o' → i + k ≡ n → e .ok ≡ false → Ids s start n n d e o o'
+ids-idle zero i {n = n} q h bad = let g : i ≡ n = omega arith in rw g at q
+ids-idle (suc k) i q h bad = ids-idle k (i + 1) (ids-more i q (omega arith) (idle bad bad)) (omega arith) bad
+
 module _ (s : List ℕ) (start n : ℕ) {c d : Quill} {o o₁ : List ℕ} (p : Moves true (idCount ∷ []) ((listStart ∷ []) ++ times n (integer ∷ [])) c d o o₁ (num n ∷ [])) where
   pub ids-stopped : not (d .ok) ≡ true → Puts (isInside (length s) start n) (idCount ∷ []) c d o o₁ (idList s start n)
   ids-stopped h = let no = not-true (d .ok) h in then p (idle no no)
@@ -211,9 +229,14 @@ module _ (s : List ℕ) (start n : ℕ) {c d : Quill} {o o₁ : List ℕ} (p : M
       → Puts (isInside (length s) start n) (idCount ∷ []) c (quill (d .at) (d .room) false) o o₁ (idList s start n)
   ids-outside e h = record { good = λ g. never g; bad = λ g k. inl (found-outside (length s) start n e h) }
 
-  pub ids-all : (i : ℕ) {e : Quill} {o₂ : List ℕ} {r : Bool} → r ≡ isInside (length s) start n → not r ≡ false → Ids s start n i d e o₁ o₂ → i ≡ n
-      → Puts (isInside (length s) start n) (idCount ∷ []) c e o o₂ (idList s start n)
-  unfolding times
-  ids-all i {e} {o₂} is h q g =
-      let m : n - i ≡ 0 = omega arith in
-      rw (found-inside (length s) start n is h) (then p (rw g at (rw m at (q .so))))
+  module _ {r : Bool} (ok : not (d .ok) ≡ false) (is : r ≡ isInside (length s) start n) (h : not r ≡ false) where
+    pub ids-all : (i : ℕ) {e : Quill} {o₂ : List ℕ} → Ids s start n i (quill (d .at) (d .room) true) e o₁ o₂ → i ≡ n
+        → Puts (isInside (length s) start n) (idCount ∷ []) c e o o₂ (idList s start n)
+    unfolding times
+    ids-all i q g =
+        let m : n - i ≡ 0 = omega arith in
+        rw (found-inside (length s) start n is h) (then p (rw g at (rw m at (rw (good d ok) at q .so))))
+
+    pub ids-cut : (i : ℕ) {e : Quill} {o₂ : List ℕ} → Ids s start n i (quill (d .at) (d .room) true) e o₁ o₂ → i ≤ n → not (e .ok) ≡ true
+        → Puts (isInside (length s) start n) (idCount ∷ []) c e o o₂ (idList s start n)
+    ids-cut i {e} q g bad = ids-all n (ids-idle (n - i) i q (omega arith) (not-true (e .ok) bad)) refl

@@ -48,14 +48,14 @@ pub(crate) fn kind(depth: usize, k: u64, out: &mut [u8], c: Quill) -> Quill
 // Id `i` of the list that stands in `lent` from bit place `start` on.
 fn id(lent: &[u8], start: usize, i: u64, out: &mut [u8], c: Quill) -> Quill
     requires { ⌜ (start / 8 ≤ length (now lent)) × (i < 128) ⌝ }
-    ensures { λ r. ⌜ Puts true (integer ∷ []) c r (now (out .entry)) (now (out .exit)) (idAt (now (lent .entry)) (start + 8 * i) ∷ []) ⌝ }
+    ensures { λ r. ⌜ Puts true (integer ∷ []) c r (now (out .entry)) (now (out .exit)) (idAt (now (lent .entry)) (start + 8 * i) ∷ []) × (r .room ≡ c .room) ⌝ }
 {
     let first = start / 8;
     let n = bits::read_field(&lent[first..], start % 8 + 8 * (i as usize), 8);
     put(out, 8, n, n < 128, c)
 }
 
-// A list of n ids that stand in `lent` from bit place `start` on.
+// A list of n ids that stand in `lent` from bit place `start` on. Only the place goes from turn to turn: room stays, and a turn follows a good one.
 pub(crate) fn ids(lent: &[u8], start: usize, n: u64, out: &mut [u8], c: Quill) -> Quill
     ensures { λ r. ⌜ Puts (isInside (length (now (lent .entry))) start n) (idCount ∷ []) c r (now (out .entry)) (now (out .exit)) (idList (now (lent .entry)) start n) ⌝ }
 {
@@ -70,11 +70,16 @@ pub(crate) fn ids(lent: &[u8], start: usize, n: u64, out: &mut [u8], c: Quill) -
             ok: false,
         };
     }
-    let mut e = d;
+    let room = d.room;
+    let mut at = d.at;
     let mut i: u64 = 0;
     while i < n {
-        e = id(lent, start, i, out, e);
+        let e = id(lent, start, i, out, Quill { at, room, ok: true });
+        if !e.ok {
+            return e;
+        }
+        at = e.at;
         i += 1;
     }
-    e
+    Quill { at, room, ok: true }
 }

@@ -1,6 +1,6 @@
 -- An id is the eight bits that stand in its place, read behind the octets before it.
 -- Assumes nothing.
-use Rattle.apdu_writing.proofs.Counts.{id-behind}
+use Rattle.apdu_writing.proofs.Counts.{id-behind, room-stays}
 use borrow.Author.Needs.{needs}
 use Rattle.apdu_writing.proofs.counted.id.Statement.{statement}
 use Rattle.apdu_writing.proofs.counted.id.Tie as tie
@@ -30,7 +30,8 @@ same-length : tie.Need-same-length
 same-length c = search needs
 
 returns : tie.Need-returns
-returns c = id-behind _ _ _ (c .before .before .before .before .before .before .before .before .pre .0) (c .before .before .before .before .read-field .ensures) (c .before .before .put .ensures)
+returns c =
+    (id-behind _ _ _ (c .before .before .before .before .before .before .before .before .pre .0) (c .before .before .before .before .read-field .ensures) (c .before .before .put .ensures), room-stays (c .before .before .put .ensures))
 
 pub id-spec : {M : Type 1} → statement M
 id-spec =
