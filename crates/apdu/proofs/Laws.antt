@@ -83,14 +83,19 @@ entries-snoc s (x ∷ xs) e rs =
     ∙ sym (append-assoc (entryValues s x (take (entryRows x) rs)) (entriesValues s xs (drop (entryRows x) rs)) (entryValues s e (take (entryRows e) (drop (rowsOf xs) (drop (entryRows x) rs)))))
     ∙ ap (λ (l : List Row). (entryValues s x (take (entryRows x) rs) ++ entriesValues s xs (drop (entryRows x) rs)) ++ entryValues s e (take (entryRows e) l)) (drop-drop (rowsOf xs) (entryRows x) rs)
 
+pub sound-append : (n : ℕ) (xs ys : List Entry) (rs : List Row) → entriesSound n (xs ++ ys) rs ≡ (entriesSound n xs rs && entriesSound n ys (drop (rowsOf xs) rs))
+unfolding entriesSound rowsOf
+sound-append n [] ys rs = refl
+sound-append n (x ∷ xs) ys rs =
+    ap (λ (b : Bool). entrySound n x (take (entryRows x) rs) && b) (sound-append n xs ys (drop (entryRows x) rs))
+    ∙ sym (and-assoc (entrySound n x (take (entryRows x) rs)) (entriesSound n xs (drop (entryRows x) rs)) (entriesSound n ys (drop (rowsOf xs) (drop (entryRows x) rs))))
+    ∙ ap (λ (l : List Row). (entrySound n x (take (entryRows x) rs) && entriesSound n xs (drop (entryRows x) rs)) && entriesSound n ys l) (drop-drop (rowsOf xs) (entryRows x) rs)
+
 pub sound-snoc : (n : ℕ) (xs : List Entry) (e : Entry) (rs : List Row)
     → entriesSound n (xs ++ (e ∷ [])) rs ≡ (entriesSound n xs rs && entrySound n e (take (entryRows e) (drop (rowsOf xs) rs)))
-unfolding entriesSound rowsOf
-sound-snoc n [] e rs = and-unit (entrySound n e (take (entryRows e) rs))
-sound-snoc n (x ∷ xs) e rs =
-    ap (λ (b : Bool). entrySound n x (take (entryRows x) rs) && b) (sound-snoc n xs e (drop (entryRows x) rs))
-    ∙ sym (and-assoc (entrySound n x (take (entryRows x) rs)) (entriesSound n xs (drop (entryRows x) rs)) (entrySound n e (take (entryRows e) (drop (rowsOf xs) (drop (entryRows x) rs)))))
-    ∙ ap (λ (l : List Row). (entrySound n x (take (entryRows x) rs) && entriesSound n xs (drop (entryRows x) rs)) && entrySound n e (take (entryRows e) l)) (drop-drop (rowsOf xs) (entryRows x) rs)
+unfolding entriesSound
+sound-snoc n xs e rs =
+    sound-append n xs (e ∷ []) rs ∙ ap (λ (b : Bool). entriesSound n xs rs && b) (and-unit (entrySound n e (take (entryRows e) (drop (rowsOf xs) rs))))
 
 take-nil : {A : Type 0} (n : ℕ) → take {A = A} n [] ≡ []
 take-nil zero = refl

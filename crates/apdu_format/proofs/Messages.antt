@@ -7,7 +7,7 @@ use mathlib.Core.Bool.{true}
 use native.Mathlib.Omega.{arith}
 use lib.ListN.{length, drop, drop-of-length-le}
 use lib.Dec.{ltb, eqb}
-use borrow.Author.Tests.{le-ltb, ltb-true, ltb-false, eqb-true}
+use borrow.Author.Tests.{le-ltb, ltb-true, ltb-false, eqb-true, eqb-false}
 use Rattle.bits.specs.Bits.{bits}
 use Rattle.bits.proofs.Laws.{bits-small, length-bits}
 use Rattle.apdu_format.specs.Limits.{longestMessage}
@@ -19,7 +19,12 @@ use Rattle.refusals.proofs.Tests.{by-test}
 use Rattle.apdu_format.proofs.Tests.{both, never}
 use Rattle.apdu_format.proofs.Rewriting.{run-wrote, penAt}
 use Rattle.apdu_format.proofs.Rereading.{Ahead, puts-back}
-use Rattle.apdu_format.proofs.Places.{run-within}
+use Rattle.apdu_format.proofs.Places.{Within, run-within}
+
+front-within : (s : List ℕ) → Within (length s) (run (bits s) levels (choice ∷ []) start)
+front-within s =
+    run-within (bits s) (length s) (length-bits s) levels (choice ∷ []) start
+    (record { at = omega arith; begun = omega arith; position = omega arith; fault = omega arith })
 
 -- ---- what is read can be written
 
@@ -43,7 +48,7 @@ front-written s =
     let r = run-wrote (bits s) (bits-small s) levels (choice ∷ []) start (eqb-true _ _ p) in
     let w : puts levels (choice ∷ []) (pen (r .vs)) ≡ penAt [] (d .room) (r .w) = rw append-nil at (r .writes [] []) in
     let e : encode (r .vs) ≡ r .w = ap (λ (p : Pen). p .out) w in
-    let i = run-within (bits s) (length s) (length-bits s) levels (choice ∷ []) start (record { at = omega arith; begun = omega arith; position = omega arith }) in
+    let i = front-within s in
     record {
       ranges = rw (r .log, w);
       long = rw (r .log, e) (omega (arith, r .to));
@@ -107,25 +112,28 @@ written-read s vs h =
       same = record { so = r .same (bits s) 0 [] a ∙ ap (map unplaced) (sym l) };
     }
 
--- ---- where a message is refused
+-- ---- where a message is refused, and with which numbers
 
 abbrev At : ℕ → Outcome → Type 0
-At n (refused k p) = p ≤ n
+At n (refused k p) = (p ≤ n) × (1 ≤ k) × (k ≤ 21)
 At n (message vs end) = end ≤ 8 * n
+
+nonzero : {k : ℕ} → (k ≡ 0 → ⊥) → 1 ≤ k
+nonzero h = omega (arith, h)
 
 pub front-inside : (s : List ℕ) → At (length s) (readFront s)
 unfolding readFront runs outcome
 front-inside s =
     let d = run (bits s) levels (choice ∷ []) start in
-    let i = run-within (bits s) (length s) (length-bits s) levels (choice ∷ []) start (record { at = omega arith; begun = omega arith; position = omega arith }) in
-    by-test (At (length s)) (eqb (d .fault) 0) (λ p. i .at) (λ p. i .position)
+    let i = front-within s in
+    by-test (At (length s)) (eqb (d .fault) 0) (λ p. i .at) (λ p. (i .position, nonzero (eqb-false (d .fault) 0 p), i .fault))
 
 alone-inside : (s : List ℕ) (o : Outcome) → At (length s) o → At (length s) (alone s o)
 unfolding alone octetOf
 alone-inside s (refused k p) h = h
-alone-inside s (message vs end) h = by-test (At (length s)) (ltb end (8 * length s)) (λ p. omega (arith, ltb-true end (8 * length s) p)) (λ p. h)
+alone-inside s (message vs end) h = by-test (At (length s)) (ltb end (8 * length s)) (λ p. (omega (arith, ltb-true end (8 * length s) p), omega arith, omega arith)) (λ p. h)
 
 pub read-inside : (s : List ℕ) → At (length s) (readMessage s)
 unfolding readMessage
 read-inside s =
-    by-test (At (length s)) (ltb longestMessage (length s)) (λ p. omega (arith, ltb-true longestMessage (length s) p)) (λ p. alone-inside s (readFront s) (front-inside s))
+    by-test (At (length s)) (ltb longestMessage (length s)) (λ p. (omega (arith, ltb-true longestMessage (length s) p), omega arith, omega arith)) (λ p. alone-inside s (readFront s) (front-inside s))

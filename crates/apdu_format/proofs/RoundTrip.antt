@@ -79,7 +79,11 @@ front-read s vs end h =
 
 -- the position of a refusal is at most the message's length
 pub refused-inside : (s : List ℕ) (k p : ℕ) → readMessage s ≡ refused k p → p ≤ length s
-refused-inside s k p h = rw h at (m.read-inside s)
+refused-inside s k p h = (rw h at (m.read-inside s)) .0
+
+-- and its number at most 21, which is never 0
+pub refused-known : (s : List ℕ) (k p : ℕ) → readMessage s ≡ refused k p → (1 ≤ k) × (k ≤ 21)
+refused-known s k p h = let i : (p ≤ length s) × (1 ≤ k) × (k ≤ 21) = rw h at (m.read-inside s) in (i .1, i .2)
 
 -- more levels would change nothing: no message goes deeper
 pub levels-suffice : (b : List ℕ) (l : ℕ) (d : State) → levels ≤ l → run b l (choice ∷ []) d ≡ run b levels (choice ∷ []) d

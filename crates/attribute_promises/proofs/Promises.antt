@@ -9,37 +9,31 @@ use native.Mathlib.Omega.{arith}
 use lib.Dec.{eqb, ltb, leb}
 use lib.ListN.{length, take, drop, length-append, length-drop, take-append-drop}
 use lib.Seq.{take-at, drop-at, drop-drop, take-append-le, drop-append-le, length-take-le}
-use borrow.Author.Tests.{eqb-true, eq-eqb, leb-true, ltb-false, ne-eqb}
-use Rattle.refusals.specs.Check.{pick, check, firstOf}
+use borrow.Author.Tests.{eqb-true, eq-eqb, leb-true, ne-eqb}
+use Rattle.refusals.specs.Check.{check, firstOf}
 use Rattle.refusals.proofs.Tests.{by-test, by-cases, first-none}
 use Rattle.bits.specs.Bits.{octets}
 use Rattle.bits.specs.Strings.{isInside, stringAt, copyFits, copyString}
 use Rattle.bits.proofs.Laws.{length-octets}
 use Rattle.bits.proofs.Strings.{length-string}
-use Rattle.apdu_format.proofs.Tests.{never, both}
+use Rattle.apdu_format.proofs.Tests.{both}
 use Rattle.apdu_format.specs.Writing.{size, encode, encodedOctets}
 use Rattle.apdu.specs.declared.records.GetRequest.{GetRequest}
 use Rattle.apdu.specs.declared.records.SetRequest.{SetRequest}
 use Rattle.apdu.specs.declared.records.Message.{Message}
 use Rattle.apdu.specs.declared.records.Message.the-variants as kind
 use Rattle.apdu.specs.Values.{valuesOf}
-use Rattle.apdu.specs.Sound.{wellFormed}
 use Rattle.apdu_reading.specs.declared.front.Answer.{Answer}
 use Rattle.apdu_reading.specs.declared.front.Answer.the-variants as answer
 use Rattle.apdu_reading.specs.declared.front.Reading.{Reading}
-use Rattle.apdu_writing.specs.Answer.{writeRefusal, answered, writeAnswer, writeOutput}
+use Rattle.apdu_writing.specs.Answer.{writeRefusal, writeOutput}
 use Rattle.apdu_writing.proofs.RoundTrip.{written-reads}
 use Rattle.directory.specs.declared.Row.{Row}
 use Rattle.directory.specs.Directory.{knownIn, rowOf, soundDirectory}
-use Rattle.attributes.specs.Serving.{Attribute, Tag, Reply, Outcome, refused, refusedAt, silent, replied, Effect, effect, noEntries, exact, denied, getFault, getFaults, idsFrom, rowsOf, valuesIn, getStatus, setStatus, setRow, setRows, valueOf, getReply, getRefusal, setReply, echoReply, writes, sent, tooLong, getting, setting, carried, served, byReading, requested, leastOutput}
+use Rattle.attributes.specs.Serving.{Attribute, Tag, Reply, Outcome, refused, refusedAt, Effect, effect, noEntries, exact, denied, getFault, getFaults, idsFrom, rowsOf, valuesIn, getStatus, setStatus, setRow, valueOf, getReply, sent, tooLong, getting, setting, carried, served, byReading, requested, leastOutput}
 use Rattle.attribute_promises.specs.Promises.{Short, ReadsBack, SameReply, AgreeOpen, holdsExact, Without}
 use Rattle.attributes.specs.Inside.{tagOf}
-
-abbrev isReply : Outcome → Bool
-isReply (refused k) = false
-isReply (refusedAt k p) = false
-isReply silent = false
-isReply (replied n) = true
+use Rattle.attributes.proofs.ShortReplies.{sent-none, requested-short}
 
 -- ---- a reply that is sent
 
@@ -49,21 +43,6 @@ module _ (q : Reply) (w out : List ℕ) where
 
   abbrev long : ℕ
   long = size (valuesOf (q .lent) (q .message) noEntries (q .attributes))
-
-  -- it is sent only where writing refuses nothing
-  sent-none : (n : ℕ) → sent q w out .outcome ≡ replied n → (refusal ≡ 0) × (long ≡ n)
-  unfolding sent writes writeAnswer answered
-  sent-none n h =
-      by-cases (eqb refusal 0)
-      (λ t. let e : replied long ≡ replied n = rw t at h in (eqb-true refusal 0 t, cc))
-      (λ t. by-cases (eqb refusal 21) (λ u. never (ap isReply (rw (t, u) at h))) (λ u. never (ap isReply (rw (t, u) at h))))
-
-  short-size : refusal ≡ 0 → long ≤ 512
-  unfolding writeRefusal
-  short-size h = ltb-false 512 long (first-none 20 (ltb 512 long) _ (first-none 22 (not (wellFormed (q .lent) (q .message) noEntries (q .attributes))) _ h .1) .0)
-
-  pub sent-short : Short (sent q w out)
-  sent-short = record { so = λ n h. let k = sent-none n h in omega (arith, k .1, short-size (k .0)) }
 
   front : (n : ℕ) → refusal ≡ 0 → long ≡ n → take n (sent q w out .output) ≡ encodedOctets (valuesOf (q .lent) (q .message) noEntries (q .attributes))
   unfolding sent writeOutput encodedOctets
@@ -75,48 +54,13 @@ module _ (q : Reply) (w out : List ℕ) where
   sent-reads =
       record {
         so = λ n h.
-            let k = sent-none n h in
+            let k = sent-none q w out n h in
             rw (front n (k .0) (k .1)) (written-reads (q .lent) (q .message) noEntries (q .attributes) out (k .0));
       }
 
--- ---- every call
-
-module _ (P : Effect → Type 0) (tag : Tag) (s out : List ℕ) (no : (o : Outcome) → isReply o ≡ false → P (effect o (tag .writable) out)) (quiet : (w : List ℕ) → P (effect silent w out))
-    (yes : (q : Reply) (w : List ℕ) → P (sent q w out)) where
-  by-carried : (m : Message) (attributes : List Attribute) → P (carried tag s m attributes out)
-  unfolding carried getting setting
-  by-carried (kind.ActionRequest m) attributes = yes _ _
-  by-carried (kind.ActionResponse m) attributes = no (refused 24) refl
-  by-carried (kind.EventRequest m) attributes = no (refused 24) refl
-  by-carried (kind.EventResponse m) attributes = no (refused 24) refl
-  by-carried (kind.SetRequest m) attributes = by-test P (m .mode) (λ t. yes _ _) (λ t. quiet _)
-  by-carried (kind.SetResponse m) attributes = no (refused 24) refl
-  by-carried (kind.GetRequest m) attributes =
-      by-test P (eqb (getStatus tag s m) 0)
-      (λ t. by-test P (tooLong (sent (getReply tag s m) (tag .writable) out .outcome)) (λ u. yes _ _) (λ u. yes _ _))
-      (λ t. yes _ _)
-  by-carried (kind.GetResponse m) attributes = no (refused 24) refl
-  by-carried (kind.Bst m) attributes = no (refused 24) refl
-  by-carried (kind.Vst m) attributes = no (refused 24) refl
-
-  by-answer : (a : Answer) (attributes : List Attribute) → P (byReading tag s a attributes out)
-  unfolding byReading
-  by-answer (answer.Refused k p) attributes = no (refusedAt k p) refl
-  by-answer (answer.Message m) attributes = by-test P (served m) (λ t. by-carried m attributes) (λ t. no (refused 24) refl)
-
-  every : (r : Reading) → P (requested tag s r out)
-  unfolding requested
-  every r =
-      let first = firstOf (check 1 (ltb (length out) leastOutput) ∷ check 26 (not (soundDirectory (length (tag .factory)) (length (tag .writable)) (tag .directory))) ∷ []) in
-      by-test P (eqb first 0) (λ t. by-answer (r .answer) (r .lists .rows)) (λ t. no (refused first) refl)
-
 -- no reply is longer than 512 octets
 pub reply-short : (tag : Tag) (s : List ℕ) (r : Reading) (out : List ℕ) → Short (requested tag s r out)
-reply-short tag s r out =
-    every Short tag s out
-    (λ o e. record { so = λ n h. never (sym e ∙ ap isReply h) })
-    (λ w. record { so = λ n h. never (ap isReply h) })
-    (λ q w. sent-short q w out) r
+reply-short tag s r out = record { so = requested-short tag s out r }
 
 -- ---- a SET with a fault
 

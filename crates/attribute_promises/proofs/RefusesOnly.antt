@@ -3,14 +3,14 @@
 -- Assumes nothing.
 use Prim.Native.Nat.{ℕ, _≤_}
 use mathlib.Core.Path.{_≡_, refl, ap, sym, _∙_}
-use mathlib.Core.Bool.{Bool, true, false}
+use mathlib.Core.Bool.{Bool, true}
 use mathlib.Core.List.{List, [], _∷_}
 use native.Mathlib.Omega.{arith}
 use lib.Dec.{eqb, ltb}
 use lib.ListN.{length, take}
 use borrow.Author.Tests.{ltb-false}
-use Rattle.refusals.specs.Check.{Check, check, firstOf}
-use Rattle.refusals.proofs.Tests.{by-test, by-cases}
+use Rattle.refusals.specs.Check.{firstOf}
+use Rattle.refusals.proofs.Tests.{by-test, by-cases, numbersTo, first-le}
 use Rattle.apdu_format.specs.Reading.{readMessage}
 use Rattle.apdu_format.specs.Reading.{refused as unread, message as read}
 use Rattle.apdu_format.specs.Writing.{inRange}
@@ -37,33 +37,24 @@ use Rattle.attribute_promises.proofs.GetValues.{values-sent}
 
 -- ---- statuses
 
-no-fault : firstOf [] ≤ 2
-unfolding firstOf
-no-fault = omega arith
+get-numbers : (rows : List Row) (exact : Bool) (ids : List ℕ) → numbersTo 2 (getFaults rows exact ids) ≡ true
+unfolding getFaults getFault numbersTo
+get-numbers rows exact [] = refl
+get-numbers rows exact (id ∷ ids) = get-numbers rows exact ids
 
-fault : (k : ℕ) (b : Bool) (cs : List Check) → k ≤ 2 → firstOf cs ≤ 2 → firstOf (check k b ∷ cs) ≤ 2
-unfolding firstOf
-fault k true cs h l = h
-fault k false cs h l = l
-
-get-faults-small : (rows : List Row) (exact : Bool) (ids : List ℕ) → firstOf (getFaults rows exact ids) ≤ 2
-unfolding getFaults getFault
-get-faults-small rows exact [] = no-fault
-get-faults-small rows exact (id ∷ ids) = fault 2 _ _ (omega arith) (fault 1 _ _ (omega arith) (get-faults-small rows exact ids))
-
-set-faults-small : (rows : List Row) (exact : Bool) (l : List Attribute) → firstOf (setFaults rows exact l) ≤ 2
-unfolding setFaults setFault
-set-faults-small rows exact [] = no-fault
-set-faults-small rows exact (a ∷ l) = fault 2 _ _ (omega arith) (fault 1 _ _ (omega arith) (set-faults-small rows exact l))
+set-numbers : (rows : List Row) (exact : Bool) (l : List Attribute) → numbersTo 2 (setFaults rows exact l) ≡ true
+unfolding setFaults setFault numbersTo
+set-numbers rows exact [] = refl
+set-numbers rows exact (a ∷ l) = set-numbers rows exact l
 
 module _ (tag : Tag) (s : List ℕ) where
   get-status-small : (m : GetRequest) → getStatus tag s m ≤ 2
-  unfolding getStatus
-  get-status-small m = fault 2 _ _ (omega arith) (fault 2 _ _ (omega arith) (get-faults-small (tag .directory) _ _))
+  unfolding getStatus numbersTo
+  get-status-small m = first-le 2 _ (get-numbers (tag .directory) _ _)
 
   set-status-small : (m : SetRequest) (attributes : List Attribute) → setStatus tag s m attributes ≤ 2
-  unfolding setStatus
-  set-status-small m attributes = fault 2 _ _ (omega arith) (set-faults-small (tag .directory) _ (take (m .count) attributes))
+  unfolding setStatus numbersTo
+  set-status-small m attributes = first-le 2 _ (set-numbers (tag .directory) _ (take (m .count) attributes))
 
 -- ---- a request that is served
 

@@ -5,3 +5,4 @@ pub mod Gathering
 pub mod ValueReply
 pub mod Outcomes
 pub mod Ranges
+pub mod ShortReplies

@@ -1,13 +1,14 @@
 -- What the calls answer fits into an answer's number: refusals are below 256, octets below 2^24; and which answers change the table. Assumes nothing.
-use mathlib.Core.Path.{_≡_, refl, sym, ap, subst, _∙_}
-use mathlib.Core.Bool.{Bool, true, false, not, _&&_, true≢false, false≢true}
+use mathlib.Core.Path.{_≡_, refl, sym, subst}
+use mathlib.Core.Bool.{Bool, true, false, not, true≢false, false≢true}
 use mathlib.Core.List.{List, [], _∷_}
 use Prim.Native.Nat.{ℕ, _+_, _*_, _≤_, _<_, _^_}
 use native.Mathlib.Omega.{arith}
 use lib.ListN.{length}
-use lib.Dec.{eqb, leb}
-use borrow.Author.Tests.{eqb-true, leb-true}
+use lib.Dec.{eqb}
+use borrow.Author.Tests.{eqb-true}
 use Rattle.refusals.specs.Check.{pick, Check, check, firstOf, Answer, refused, accepted}
+use Rattle.refusals.proofs.Tests.{numbersTo, first-le}
 use Rattle.slots.specs.declared.Slot.{Slot}
 use Rattle.slots.specs.declared.Table.{Table}
 use Rattle.slots.specs.declared.SweepResult.{SweepResult}
@@ -24,24 +25,9 @@ use Rattle.reassembly.specs.declared.FragmentResult.{FragmentResult}
 use Rattle.reassembly.specs.Checks.{fragmentIn, payloadOf, fragmentChecks}
 use Rattle.reassembly.specs.Engine.{Taken, held, whole, Outcome, slotFor, factsIn, fragmentTaken, fragmentRefusal, fragmentOf, fragmentAnswer, FragmentGives}
 use Rattle.reassembly.proofs.Passed.{first-clear, passed, valid-is}
-use Rattle.words.specs.Answer.{TakenOut, UnpackingAnswer}
+use Rattle.words.specs.Answer.{UnpackingAnswer}
 use Rattle.words.proofs.Answers.{unpacking-answer}
 use Rattle.exports.specs.Fragments.{isTaken, FragmentTold, isSwept, SweepTold}
-
--- ---- refusals
-
-numbersTo : ℕ → List Check → Bool
-numbersTo n [] = true
-numbersTo n (c ∷ cs) = leb (c .number) n && numbersTo n cs
-
-first-le : (n : ℕ) (cs : List Check) → numbersTo n cs ≡ true → firstOf cs ≤ n
-unfolding numbersTo firstOf
-first-le n [] e = omega arith
-first-le n (c ∷ cs) e = go (c .holds) (first-le n cs (and-r (leb (c .number) n) (numbersTo n cs) e))
-  where
-    go : (b : Bool) → firstOf cs ≤ n → pick b (c .number) (firstOf cs) ≤ n
-    go true rest = leb-true (c .number) n (and-l (leb (c .number) n) (numbersTo n cs) e)
-    go false rest = rest
 
 -- ---- a fragment's answer
 

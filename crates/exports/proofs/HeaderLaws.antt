@@ -1,13 +1,14 @@
 -- What is read out of a header's number is the header, and of a written one its octets. Assumes nothing.
 use mathlib.Core.Path.{_≡_, refl, sym, ap, _∙_}
-use mathlib.Core.Bool.{Bool, true, false, _&&_}
+use mathlib.Core.Bool.{Bool, true, false}
 use mathlib.Core.List.{List}
 use Prim.Native.Nat.{ℕ, zero, suc, _≤_}
 use native.Mathlib.Omega.{arith}
 use lib.ListN.{length}
 use lib.Dec.{eqb, ltb}
 use borrow.Author.Tests.{ne-eqb}
-use Rattle.refusals.specs.Check.{pick, firstOf, accepted, decided}
+use Rattle.refusals.specs.Check.{pick, accepted, decided}
+use Rattle.refusals.proofs.Tests.{numbersTo, first-le}
 use Rattle.bits.specs.Bits.{Octets}
 use Rattle.header.specs.declared.Header.{Header}
 use Rattle.header.specs.declared.HeaderWritten.{HeaderWritten}
@@ -55,24 +56,12 @@ unfolding UnpackingAnswer
 refusal-told n h = (ne-eqb (suc n) 0 (λ e. omega (arith, e)), unpacking-answer (suc n) 0 0 0 (omega arith) (omega arith) (omega arith) (omega arith))
 
 read-five : (s : List ℕ) → readRefusal s ≤ 23
-unfolding readRefusal firstOf
-read-five s = go (ltb (length s) (headerLength s)) (eqb (headerLength s) 3 && eqb (endBit s 2) 1) (ltb (lengthFor (headerOf s .counter)) (headerLength s))
-  where
-    go : (a b c : Bool) → pick a 5 (pick b 5 (pick c 5 0)) ≤ 23
-    go true b c = omega arith
-    go false true c = omega arith
-    go false false true = omega arith
-    go false false false = omega arith
+unfolding readRefusal numbersTo
+read-five s = first-le 23 _ refl
 
 write-number : (h : Header) (room : ℕ) → writeRefusal h room ≤ 23
-unfolding writeRefusal firstOf
-write-number h room = go (ltb 15 (h .number)) (ltb 65535 (h .counter)) (ltb room (lengthFor (h .counter)))
-  where
-    go : (a b c : Bool) → pick a 23 (pick b 23 (pick c 22 0)) ≤ 23
-    go true b c = omega arith
-    go false true c = omega arith
-    go false false true = omega arith
-    go false false false = omega arith
+unfolding writeRefusal numbersTo
+write-number h room = first-le 23 _ refl
 
 octets-small : (counter : ℕ) → lengthFor counter ≤ 3
 unfolding lengthFor

@@ -6,6 +6,7 @@ pub mod ExportedRuns
 pub mod HeaderLaws
 pub mod LinkCallLaws
 pub mod MessageLaws
+pub mod PartsInside
 pub mod ReadingBack
 pub mod Staying
 pub mod StringInside

@@ -1,18 +1,16 @@
--- What the calls put into an answer is taken out of it again: positions and octets are at most 512. Numbers have eight bits, as they have in the code.
+-- What the calls put into an answer is taken out of it again: positions and octets are at most 512, and no refusal of reading has a number above 21.
 -- Assumes nothing.
-use Prim.Native.Nat.{ℕ, _+_, _*_, _<_, _≤_}
+use Prim.Native.Nat.{ℕ, _<_, _≤_}
 use mathlib.Core.Path.{_≡_, refl, ap, sym, _∙_}
 use mathlib.Core.Bool.{true}
 use mathlib.Core.List.{List}
 use native.Mathlib.Omega.{arith}
 use lib.ListN.{length}
 use lib.Dec.{ltb}
-use borrow.Author.Tests.{leb-true, ltb-false}
+use borrow.Author.Tests.{ltb-false}
 use Rattle.refusals.proofs.Tests.{by-cases}
-use Rattle.bits.specs.Strings.{isInside, copyFits}
 use Rattle.apdu_format.specs.Reading.{Value, Outcome, refused, message, readMessage}
-use Rattle.apdu_format.proofs.Tests.{both}
-use Rattle.apdu_format.proofs.RoundTrip.{refused-inside}
+use Rattle.apdu_format.proofs.RoundTrip.{refused-inside, refused-known}
 use Rattle.apdu.specs.declared.records.Message.{Message}
 use Rattle.apdu.specs.declared.records.Message.the-variants as kind
 use Rattle.apdu_reading.specs.declared.front.Answer.the-variants as answer
@@ -22,15 +20,14 @@ use Rattle.apdu_writing.specs.Answer as writing
 use Rattle.apdu_rewriting.specs.Rewriting.{answerTo, rewriteAnswer}
 use Rattle.initialisation.specs.Hearing.{Call, vst, heardOf}
 use Rattle.initialisation.proofs.Theorems.{hears}
-use Rattle.attributes.specs.Serving as serving
+use Rattle.attributes.specs.Serving.{Tag, Effect, replied, toldOf, requested}
+use Rattle.attributes.proofs.ShortReplies.{requested-short}
 use Rattle.words.specs.Answer.{answerNumber, UnpackingAnswer, TakenOut}
 use Rattle.words.proofs.Answers.{unpacking-answer}
-use Rattle.exports.specs.declared.strings.StringPart.{StringPart}
 use Rattle.exports.specs.Taken.{Says}
 use Rattle.exports.specs.Messages.{choiceOf, checkNumber, checkedNumber, writtenNumber}
 use Rattle.exports.specs.LinkCalls.{replyNumber}
-use Rattle.exports.specs.AttributeCalls.{outcomeNumber}
-use Rattle.exports.specs.Strings.{stringNumber}
+use Rattle.exports.specs.AttributeCalls.{outcomeNumber, RequestGives}
 use Rattle.exports.proofs.MessageLaws.{checked-is}
 
 pub says : (number kind first : ℕ) → number < 256 → kind < 256 → first ≤ 512 → Says (answerNumber number kind first 0) number kind first 0
@@ -58,9 +55,9 @@ message-short s vs end e =
     (λ t. ltb-false 512 (length s) t)
 
 -- check: the position of a refusal
-pub check-refused : (s : List ℕ) (k p : ℕ) → readMessage s ≡ refused k p → k < 256 → Says (checkNumber (readMessage s)) k 0 p 0
+pub check-refused : (s : List ℕ) (k p : ℕ) → readMessage s ≡ refused k p → Says (checkNumber (readMessage s)) k 0 p 0
 unfolding checkNumber
-check-refused s k p e h = rw e (says k 0 p h (omega arith) (position-small s k p e))
+check-refused s k p e = rw e (says k 0 p (omega (arith, refused-known s k p e .1)) (omega arith) (position-small s k p e))
 
 choice-small : (m : Message) → choiceOf m ≤ 9
 choice-small (kind.ActionRequest m) = omega arith
@@ -94,20 +91,16 @@ pub rewrite-octets : (s : List ℕ) (n m : ℕ) → rewriteAnswer s n ≡ writin
 unfolding rewriteAnswer writtenNumber
 rewrite-octets s n m e = rw e (says 0 0 m (omega arith) (omega arith) (octets-small s n m (readMessage s) refl e))
 
--- ---- a VST, a reply, a string
+-- ---- a VST, a reply
 
 pub vst-octets : (c : Call) (n : ℕ) → heardOf c .reply ≡ vst n → Says (replyNumber (heardOf c .reply)) 0 1 n 0
 unfolding replyNumber
 vst-octets c n e = rw e (says 0 1 n (omega arith) (omega arith) (hears c .sent n e .short))
 
--- no reply is longer than 512 octets: attribute_promises
-pub reply-octets : (o : serving.Outcome) (n : ℕ) → o ≡ serving.replied n → n ≤ 512 → Says (outcomeNumber o) 0 1 n 0
+pub reply-octets : {tag : Tag} {s out : List ℕ} {r : ℕ} {w out' : List ℕ} (g : RequestGives tag s out r w out') (n : ℕ)
+    → toldOf (g .call .outcome) ≡ replied n → Says r 0 1 n 0
 unfolding outcomeNumber
-reply-octets o n e h = rw e (says 0 1 n (omega arith) (omega arith) h)
-
-pub string-octets : (s : List ℕ) (p : StringPart) (out : List ℕ) → length s ≤ 512 → p .present ≡ true → copyFits s (p .start) (p .length) out 0 ≡ true
-    → Says (stringNumber s p out) 0 1 (p .length) 0
-unfolding stringNumber copyFits isInside
-string-octets s p out h a f =
-    let i : p .start + 8 * p .length ≤ 8 * length s = leb-true _ _ (both _ _ f .0) in
-    rw (a, f) (says 0 1 (p .length) (omega arith) (omega arith) (omega arith))
+reply-octets {tag} {s} {out} g n e =
+    let a = g .answered in
+    let o : requested tag s (a .reading) out .outcome ≡ replied n = sym (ap (λ (x : Effect). x .outcome) (a .is)) ∙ e in
+    rw (g .is, e) (says 0 1 n (omega arith) (omega arith) (requested-short tag s out (a .reading) n o))

@@ -1,14 +1,14 @@
 -- The octets of a string of a message by the string's number: 0 the credentials, 1 the parameter, 2 to 33 the attribute rows in the order of the message, 34
 -- to 65 the parameters of its application entries. An absent container has kind 0, so a parameter is a string just where its kind is 2.
 -- Assumes nothing.
-use Prim.Native.Nat.{ℕ, _-_}
-use mathlib.Core.Bool.{Bool, false}
+use Prim.Native.Nat.{ℕ, _-_, _≤_, _<_}
+use mathlib.Core.Bool.{Bool, true, false}
 use mathlib.Core.Path.{_≡_}
-use mathlib.Core.List.{List}
+use mathlib.Core.List.{List, _++_}
 use lib.Dec.{eqb, ltb}
-use lib.ListN.{getD}
+use lib.ListN.{length, getD, drop}
 use Rattle.refusals.specs.Check.{pick}
-use Rattle.bits.specs.Strings.{copyFits, copyString}
+use Rattle.bits.specs.Strings.{stringAt, copyFits, copyString}
 use Rattle.apdu_format.specs.Component.{octetString}
 use Rattle.apdu_format.specs.Reading.{readMessage}
 use Rattle.apdu.specs.declared.lists.Entry.{Entry}
@@ -24,6 +24,7 @@ use Rattle.apdu_reading.specs.Answers.{outcomeOf, Tidy, SoundRecord}
 use Rattle.words.specs.Answer.{answerNumber}
 use Rattle.exports.specs.declared.strings.StringPart.{StringPart}
 use Rattle.exports.specs.Messages.{refusalNumber, refusalAt}
+use Rattle.exports.specs.Taken.{Says}
 
 -- ---- which part
 
@@ -99,3 +100,15 @@ pub record StringGives (s : List ℕ) (field : ℕ) (out : List ℕ) (r : ℕ) (
   pub sound : SoundRecord s reading
   pub is : r ≡ fieldNumber s (reading .lists) field out (reading .answer)
   pub output-is : out' ≡ fieldOutput s (reading .lists) field out (reading .answer)
+
+-- ---- the law (proofs/StringInside.antt proves it): every string of a message lies inside it, whichever its number, so 22 says that the output is
+-- shorter than the string, and nothing else
+
+pub record StringTold (s : List ℕ) (p : StringPart) (out : List ℕ) (r : ℕ) (out' : List ℕ) : Type 0 where
+  pub small : length out < p .length → Says r 22 0 0 0 × (out' ≡ out)
+  pub large : p .length ≤ length out → Says r 0 1 (p .length) 0 × (out' ≡ stringAt s (p .start) (p .length) ++ drop (p .length) out)
+
+unfoldable pub EachString : Type 0
+EachString =
+    (s : List ℕ) (field : ℕ) (out : List ℕ) (r : ℕ) (out' : List ℕ) (g : StringGives s field out r out') (m : Message)
+    → g .reading .answer ≡ answer.Message m → stringPart m (g .reading .lists) field .present ≡ true → StringTold s (stringPart m (g .reading .lists) field) out r out'

@@ -1,12 +1,12 @@
 -- Laws of tests and of choices by a test.
 -- Assumes nothing.
 use mathlib.Core.Path.{_≡_, refl, sym, _∙_}
-use mathlib.Core.Bool.{Bool, true, false, _&&_}
+use mathlib.Core.Bool.{Bool, true, false, _&&_, false≢true}
 use Prim.Native.Nat.{ℕ, zero, suc, _≤_, _<_}
 use native.Mathlib.Omega.{arith}
 use lib.Dec.{leb}
 use borrow.Author.Tests.{le-leb, lt-leb, leb-true, leb-false}
-use mathlib.Core.List.{List, _∷_}
+use mathlib.Core.List.{List, [], _∷_}
 use Rattle.refusals.specs.Check.{pick, Check, check, firstOf, refused, accepted, decided}
 
 -- a statement about a choice, from the two cases of its test
@@ -47,6 +47,19 @@ pub first-none : (k : ℕ) (b : Bool) (cs : List Check) → firstOf (check (suc 
 unfolding firstOf
 first-none k true cs e = absurd (omega arith)
 first-none k false cs e = (refl, e)
+
+-- no check has a number above n, so neither does the refusal
+unfoldable pub numbersTo : ℕ → List Check → Bool
+numbersTo n [] = true
+numbersTo n (c ∷ cs) = leb (c .number) n && numbersTo n cs
+
+pub first-le : (n : ℕ) (cs : List Check) → numbersTo n cs ≡ true → firstOf cs ≤ n
+unfolding numbersTo firstOf
+first-le n [] e = omega arith
+first-le n (c ∷ cs) e =
+    by-cases (leb (c .number) n)
+    (λ t. by-test (λ (k : ℕ). k ≤ n) (c .holds) (λ h. leb-true (c .number) n t) (λ h. first-le n cs (rw t at e)))
+    (λ t. absurd (false≢true (rw t at e)))
 
 -- what is accepted was refused by no check
 pub decided-accepted : {A : Type 0} (r : ℕ) (a b : A) → decided r a ≡ accepted b → (r ≡ 0) × (a ≡ b)
