@@ -56,6 +56,6 @@ spent c = pick (eqb (c .fault) 0) (pick (ltb (c .room) (c .value)) c (cursor (c 
 unfoldable pub markedAt : Cursor → ℕ → ℕ → Cursor
 markedAt c value start = cursor (c .at) (c .begun) (c .room) (c .fault) (c .position) value start
 
--- over so many octets as the value says
+-- the cursor behind as many octets as its value says
 abbrev pub skipped : List ℕ → Cursor → Cursor
 skipped s c = markedAt (pieceOf s (8 * c .value) false c) (c .value) (c .at)

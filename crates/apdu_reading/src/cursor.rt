@@ -86,6 +86,7 @@ pub(crate) fn piece(s: &[u8], width: usize, begins: bool, c: Cursor) -> Cursor
 }
 
 // The cursor behind the next eight bits, of a component that begins here: they lie in one octet or in two.
+// `piece` would read them too, by a window for any width, which is too large to be inlined.
 pub(crate) fn whole(s: &[u8], c: Cursor) -> Cursor
     requires { ⌜ length (now s) ≤ 512 ⌝ }
     ensures { λ r. ⌜ (r ≡ pieceOf (now (s .entry)) 8 true c) × (r .value < 256) ⌝ }

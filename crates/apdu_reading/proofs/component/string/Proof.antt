@@ -21,8 +21,8 @@ skip-requires c κs = search needs
 
 returns : tie.Need-returns
 returns c =
-    string-by _ _ (c .before .before .judged .ensures ∙ form-is _ _ (c .before .before .before .before .piece .ensures .0)) (c .before .piece2 .ensures .0 ∙ length-is _ _)
-    (octets-is _ _ _) (c .skip .ensures) (c .before .piece2 .ensures .1)
+    string-by _ _ (c .before .before .judged .ensures ∙ form-is _ _ (c .before .before .before .before .piece .ensures .0))
+    (c .before .piece2 .ensures .0 ∙ length-is _ _) (octets-is _ _ _) (c .skip .ensures) (c .before .piece2 .ensures .1)
 
 pub string-spec : {M : Type 1} → statement M
 string-spec = tie.close (tie.spec piece-requires judged-requires piece-requires-2 skip-requires returns)

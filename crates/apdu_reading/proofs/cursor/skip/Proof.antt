@@ -22,7 +22,8 @@ marked-requires-2 c κs = tt
 
 returns-2 : tie.Need-returns-2
 returns-2 c =
-    skip-cut _ _ (c .before .before .before .inside .ensures) (c .marked2 .ensures) (c .before .before .before .before .if1 .left) (c .before .before .if2 .taken) (c .before .faulty .ensures)
+    skip-cut _ _ (c .before .before .before .inside .ensures) (c .marked2 .ensures) (c .before .before .before .before .if1 .left)
+    (c .before .before .if2 .taken) (c .before .faulty .ensures)
 
 mul-moved : tie.Need-mul-moved
 mul-moved c = omega (arith, all-there _ _ _ (c .before .inside .ensures) (c .if2 .left))
@@ -35,7 +36,8 @@ marked-requires-3 c κs = tt
 
 returns-3 : tie.Need-returns-3
 returns-3 c =
-    skip-past _ _ (c .before .before .before .inside .ensures) (c .marked3 .ensures) (c .before .before .before .before .if1 .left) (c .before .before .if2 .left) (c .before .moved .ensures)
+    skip-past _ _ (c .before .before .before .inside .ensures) (c .marked3 .ensures) (c .before .before .before .before .if1 .left)
+    (c .before .before .if2 .left) (c .before .moved .ensures)
 
 pub skip-spec : {M : Type 1} → statement M
 skip-spec =

@@ -77,7 +77,8 @@ returns-4 : tie.Need-returns-4
 returns-4 c =
     let i = c .before .before .before .before .before .before .before .before .args .c .at / 8 in
     by-begins _ _ _ _ (c .before .before .before .before .before .if1 .left) refl
-    (read-two _ _ refl (c .before .before .shared-slice-known3 .given i .fits) refl (c .before .shared-slice-known4 .given (i + 1) .fits) refl) (c .moved2 .ensures) (omega arith)
+    (read-two _ _ refl (c .before .before .shared-slice-known3 .given i .fits) refl (c .before .shared-slice-known4 .given (i + 1) .fits) refl)
+    (c .moved2 .ensures) (omega arith)
 
 pub whole-spec : {M : Type 1} → statement M
 whole-spec =
