@@ -1,40 +1,35 @@
 -- A line joined: what its reading and the fragment call promise is what the contract of a line asks. Assumes nothing.
-use mathlib.Core.Path.{_≡_, refl, sym, ap, subst, _∙_}
+use mathlib.Core.Path.{_≡_, sym, ap, subst, _∙_}
 use mathlib.Core.Bool.{Bool, true, false}
 use mathlib.Core.List.{List, _++_}
 use Prim.Native.Nat.{ℕ, _/_}
 use native.Mathlib.Omega.{arith}
 use lib.ListN.{length, take, drop}
 use lib.Seq.{take-at}
-use lib.Dec.{ltb, leb}
+use lib.Dec.{leb}
 use Rattle.refusals.specs.Check.{pick, Answer, refused, accepted}
 use Rattle.slots.specs.declared.Table.{Table}
 use Rattle.slots.specs.Slots.{heldFor}
-use Rattle.reassembly.specs.declared.FragmentResult.{FragmentResult}
-use Rattle.reassembly.specs.declared.FragmentAnswer.the-variants as answer
-use Rattle.reassembly.specs.Engine.{FragmentGives}
+use Rattle.reassembly.specs.declared.FragmentAnswer.{FragmentAnswer}
 use Rattle.bench_lines.specs.Numerals.{octetsOf}
 use Rattle.bench_lines.specs.Line.{Fields, lsduText, hasForm, fieldsOf, readLine, lineAnswer, lsduAfter}
 use Rattle.bench_lines.specs.declared.LineRead.{LineRead}
 use Rattle.bench_lines.specs.declared.LineRead.the-variants as read
 use Rattle.bench_lines.proofs.Spelling.{length-octets}
+use Rattle.bench_joining.specs.declared.Columns.{Columns}
 use Rattle.bench_joining.specs.declared.Taken.{Taken}
 use Rattle.bench_joining.specs.declared.joining.Headed.{Headed}
-use Rattle.bench_joining.specs.Columns.{columnsOf, refusedColumns, refusedWith}
-use Rattle.bench_joining.specs.Joined.{headedBy, LsduJoined, LineJoined, lsduOf, LineTaken}
+use Rattle.bench_joining.specs.Columns.{columnsOf, refusedWith}
+use Rattle.bench_joining.specs.Joined.{headedBy, columnsAfter, LsduJoined, LineJoined, lsduOf, LineTaken}
 
 -- ---- an LSDU
 
-module _ (lid tick : ℕ) (lsdu : List ℕ) (table : Table) (store output store' output' : List ℕ) (r : Taken) (call : FragmentResult) (header : Headed) (held : ℕ) where
-  pub joined-by : FragmentGives lid tick lsdu table store output call store' output' → header ≡ headedBy lsdu → held ≡ heldFor (call .table) lid (header .number)
-      → r .table ≡ call .table → r .columns ≡ columnsOf (call .answer) held (header .payload) → LsduJoined lid tick lsdu table store output r store' output'
-  unfolding headedBy
-  joined-by gives h e t c = record {
-    call = call;
-    gives = gives;
-    table-is = t;
-    columns-are = c ∙ λ i. columnsOf (call .answer) ((e ∙ ap (λ (x : Headed). heldFor (call .table) lid (x .number)) h) i) (h i .payload);
-  }
+-- what the header tells, and the octets held for its pair, make the columns
+pub shown-is : (answer : FragmentAnswer) (lid : ℕ) (lsdu : List ℕ) (after : Table) (header : Headed) (held : ℕ) (r : Columns) → header ≡ headedBy lsdu
+    → held ≡ heldFor after lid (header .number) → r ≡ columnsOf answer held (header .payload) → r ≡ columnsAfter answer lid lsdu after
+unfolding headedBy columnsAfter
+shown-is answer lid lsdu after header held r h e c =
+    c ∙ λ i. columnsOf answer ((e ∙ ap (λ (x : Headed). heldFor after lid (x .number)) h) i) (h i .payload)
 
 -- ---- a line
 
@@ -72,18 +67,14 @@ module _ (line : List ℕ) (table : Table) (lsdu store output lsdu' store' outpu
         lsdu-is = got .1 ∙ ap (λ (x : Answer Fields). lsduAfter x line lsdu) (got .0);
       }
 
-  pub line-refused : (k : ℕ) → a ≡ read.Refused k → r .table ≡ table → r .columns ≡ columnsOf (answer.Refused k) 0 0 → store' ≡ store → output' ≡ output
+  pub line-refused : (k : ℕ) → a ≡ read.Refused k → r .table ≡ table → r .columns ≡ refusedWith k 0 → store' ≡ store → output' ≡ output
       → LineTaken line table lsdu store output r lsdu' store' output'
-  unfolding lineAnswer LineJoined columnsOf refusedColumns
+  unfolding lineAnswer LineJoined
   line-refused k e t c s o =
       let is : refused k ≡ readLine line (length lsdu) = sym (ap lineAnswer e) ∙ got .0 in
       record {
         joined =
             subst (λ (x : Answer Fields). LineJoined x (lsduOf line) table store output r store' output') is
-            (record { table-is = t; columns-are = c ∙ either (ltb k 7); store-is = s; output-is = o });
+            (record { table-is = t; columns-are = c; store-is = s; output-is = o });
         lsdu-is = got .1 ∙ ap (λ (x : Answer Fields). lsduAfter x line lsdu) (got .0);
       }
-    where
-      either : (b : Bool) → pick b (refusedWith k 0) (refusedWith k 0) ≡ refusedWith k 0
-      either true = refl
-      either false = refl

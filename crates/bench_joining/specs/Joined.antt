@@ -8,11 +8,13 @@ use lib.ListN.{length}
 use Rattle.refusals.specs.Check.{Answer, refused, accepted}
 use Rattle.slots.specs.declared.Table.{Table}
 use Rattle.slots.specs.Slots.{heldFor}
+use Rattle.reassembly.specs.declared.FragmentAnswer.{FragmentAnswer}
 use Rattle.reassembly.specs.declared.FragmentResult.{FragmentResult}
 use Rattle.reassembly.specs.Checks.{fragmentIn}
 use Rattle.reassembly.specs.Engine.{FragmentGives}
 use Rattle.bench_lines.specs.Numerals.{octetsOf}
 use Rattle.bench_lines.specs.Line.{Fields, lsduText, readLine, lsduAfter}
+use Rattle.bench_joining.specs.declared.Columns.{Columns}
 use Rattle.bench_joining.specs.declared.Taken.{Taken}
 use Rattle.bench_joining.specs.declared.joining.Headed.{Headed}
 use Rattle.bench_joining.specs.Columns.{columnsOf, refusedWith}
@@ -21,12 +23,16 @@ use Rattle.bench_joining.specs.Columns.{columnsOf, refusedWith}
 unfoldable pub headedBy : List ℕ → Headed
 headedBy lsdu = record { number = fragmentIn lsdu .number; payload = fragmentIn lsdu .octets }
 
--- an LSDU is handed on: the call's contract holds of some call; the table is the call's, and the columns show its answer, with the octets then held for the pair
+-- the columns of an answer to an LSDU, with the octets held for the pair by the table after the call
+unfoldable pub columnsAfter : FragmentAnswer → (lid : ℕ) → (lsdu : List ℕ) → Table → Columns
+columnsAfter answer lid lsdu after = columnsOf answer (heldFor after lid (fragmentIn lsdu .number)) (fragmentIn lsdu .octets)
+
+-- an LSDU is handed on: the call's contract holds of some call; the table is the call's, and the columns show its answer
 pub record LsduJoined (lid tick : ℕ) (lsdu : List ℕ) (table : Table) (store output : List ℕ) (r : Taken) (store' output' : List ℕ) : Type 0 where
   pub call : FragmentResult
   pub gives : FragmentGives lid tick lsdu table store output call store' output'
   pub table-is : r .table ≡ call .table
-  pub columns-are : r .columns ≡ columnsOf (call .answer) (heldFor (call .table) lid (fragmentIn lsdu .number)) (fragmentIn lsdu .octets)
+  pub columns-are : r .columns ≡ columnsAfter (call .answer) lid lsdu (call .table)
 
 -- a line that is not read: its refusal is shown, and nothing has changed
 pub record LineRefused (number : ℕ) (table : Table) (store output : List ℕ) (r : Taken) (store' output' : List ℕ) : Type 0 where

@@ -40,7 +40,8 @@ fn refused(number: u8, held: usize) -> Columns
     no_octets(number, held)
 }
 
-fn no_octets(number: u8, octets: usize) -> Columns
+// The columns of a refusal.
+pub fn no_octets(number: u8, octets: usize) -> Columns
     ensures { λ r. ⌜ r ≡ refusedWith number octets ⌝ }
 {
     Columns {

@@ -1,9 +1,11 @@
 // A line, joined.
 ghost use mathlib.Core.Path.{_≡_};
 ghost use lib.ListN.{take};
-ghost use Rattle.bench_joining.specs.Joined.{headedBy, LsduJoined, LineTaken};
+ghost use Rattle.bench_joining.specs.Joined.{headedBy, columnsAfter, LsduJoined, LineTaken};
+use crate::Columns;
 use crate::Taken;
 use crate::answers::columns;
+use crate::answers::no_octets;
 use bench_lines::LineRead;
 use header::HeaderRead;
 use reassembly::FragmentAnswer;
@@ -30,6 +32,15 @@ fn header_of(lsdu: &[u8]) -> Headed
     }
 }
 
+// The columns of an answer to a fragment, where `after` is the table after the call.
+pub fn shown(answer: FragmentAnswer, lid: u32, lsdu: &[u8], after: Table) -> Columns
+    ensures { λ r. ⌜ r ≡ columnsAfter answer lid (now (lsdu .entry)) after ⌝ }
+{
+    let fragment = header_of(lsdu);
+    let held = reassembly::held_for(after, lid, fragment.number);
+    columns(answer, held, fragment.payload)
+}
+
 // The fragment call for one LSDU.
 fn join(
     lid: u32,
@@ -44,11 +55,9 @@ fn join(
     let result = reassembly::fragment(lid, tick, lsdu, table, store, output);
     let answer = result.answer;
     let after = result.table;
-    let fragment = header_of(lsdu);
-    let held = reassembly::held_for(after, lid, fragment.number);
     Taken {
         table: after,
-        columns: columns(answer, held, fragment.payload),
+        columns: shown(answer, lid, lsdu, after),
     }
 }
 
@@ -78,7 +87,7 @@ pub fn take_line(
         }
         LineRead::Refused(number) => Taken {
             table,
-            columns: columns(FragmentAnswer::Refused(number), 0, 0),
+            columns: no_octets(number, 0),
         },
     }
 }

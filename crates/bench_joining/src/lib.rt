@@ -20,5 +20,7 @@ pub struct Taken {
     pub columns: Columns,
 }
 
+pub use answers::no_octets;
 pub use joining::front;
+pub use joining::shown;
 pub use joining::take_line;

@@ -1,15 +1,14 @@
 -- The exported bench line: a line of output has room in 128 octets, and the words keep the joined table. Assumes nothing.
 use mathlib.Core.Path.{_≡_, refl, sym, ap, subst, _∙_}
-use mathlib.Core.Bool.{Bool, true, false, true≢false}
+use mathlib.Core.Bool.{Bool, true, false}
 use mathlib.Core.List.{List}
 use Prim.Native.Nat.{ℕ, _+_, _/_, _≤_, _<_, _^_}
 use native.Mathlib.Omega.{arith}
-use lib.ListN.{length, length-drop}
+use lib.ListN.{length, take, length-drop}
 use lib.Dec.{ltb, leb}
 use borrow.Author.Tests.{leb-true, le-leb, lt-ltb, le-ltb}
 use Rattle.refusals.specs.Check.{pick, Answer, refused, accepted}
 use Rattle.slots.specs.declared.Table.{Table}
-use Rattle.slots.specs.Slots.{isSound}
 use Rattle.reassembly.specs.declared.FragmentAnswer.{FragmentAnswer}
 use Rattle.reassembly.specs.declared.FragmentAnswer.the-variants as fragment
 use Rattle.reassembly.specs.Engine.{fragmentAnswer}
@@ -17,24 +16,24 @@ use Rattle.bench_lines.specs.declared.Appended.{Appended}
 use Rattle.bench_lines.specs.declared.Appended.the-variants as appended
 use Rattle.bench_lines.specs.declared.BenchAnswer.{BenchAnswer}
 use Rattle.bench_lines.specs.declared.BenchAnswer.the-variants as shown
+use Rattle.bench_lines.specs.declared.LineRead.{LineRead}
+use Rattle.bench_lines.specs.declared.LineRead.the-variants as read
 use Rattle.slots.proofs.Tests.{and-l}
-use Rattle.bench_lines.specs.Line.{Fields, secondSpace, lsduText, allHold, hasForm, fieldsOf, readLine}
+use Rattle.bench_lines.specs.Line.{Fields, secondSpace, lsduText, allHold, hasForm, fieldsOf, readLine, lineAnswer, lsduAfter}
 use Rattle.bench_lines.specs.Text.{refusedWord, answerText, answerLineText, written, hasRoom, appendText, appendedAnswer, outputAfter}
 use Rattle.bench_lines.proofs.Decimal.{width-u64}
 use Rattle.bench_lines.proofs.Appending.{length-named, length-line}
 use Rattle.bench_joining.specs.declared.Columns.{Columns}
-use Rattle.bench_joining.specs.declared.Taken.{Taken}
 use Rattle.bench_joining.specs.Columns.{columnsOf, refusedColumns, refusedWith}
-use Rattle.bench_joining.specs.Joined.{LineJoined, lsduOf}
+use Rattle.bench_joining.specs.Joined.{columnsAfter, LineJoined, lsduOf, LineTaken}
+use Rattle.bench_joining.proofs.LineLaws.{line-joined, line-refused}
 use Rattle.words.specs.Answer.{answerNumber, UnpackingAnswer}
 use Rattle.words.proofs.Answers.{unpacking-answer}
 use Rattle.words.specs.TableWords.{tableIn}
-use Rattle.exports.specs.Fragments.{isTaken}
-use Rattle.exports.specs.Putting.{keptTable}
-use Rattle.exports.specs.BenchLine.{isAccepted, outputLine, LineShown, BenchLineExported, RoomForEach}
-use Rattle.exports.proofs.Staying.{Sound}
-use Rattle.exports.proofs.Answering.{Small, fragment-small, fragment-clear, fragment-same}
-use Rattle.exports.proofs.Exported.{kept-is, back-is, after-taken}
+use Rattle.exports.specs.Fragments.{keptWords, isTaken}
+use Rattle.exports.specs.BenchLine.{isAccepted, outputLine, BenchLineExported, RoomForEach}
+use Rattle.exports.specs.Putting.{FragmentPut, LsduPut, LinePut}
+use Rattle.exports.proofs.Answering.{Small, fragment-small}
 
 -- ---- the text
 
@@ -117,44 +116,53 @@ room-for-each line e = go (hasForm line) refl e
         omega arith
     go false h e = let is : _≡_ {A = ℕ} 0 22 = cc in omega arith
 
--- ---- the words
+-- ---- a line joined, over the words
 
-pub record LineFacts (words : List ℕ) (taken : Taken) : Type 0 where
-  pub clear : isAccepted (taken .columns .answer) ≡ true → isSound (tableIn words) ≡ true
-  pub stays : isAccepted (taken .columns .answer) ≡ true → Sound (taken .table)
-  pub same : isAccepted (taken .columns .answer) ≡ false → taken .table ≡ tableIn words
-  pub short : length (answerText (taken .columns .answer)) ≤ 29
+pub lsdu-put : (lid tick : ℕ) (lsdu words store output : List ℕ) (r : Columns) (words' store' output' : List ℕ) (x : FragmentAnswer) (after : Table)
+    → FragmentPut lid tick lsdu words store output x words' store' output' → after ≡ tableIn words' → r ≡ columnsAfter x lid lsdu after
+    → LsduPut lid tick lsdu words store output r words' store' output'
+unfolding columnsAfter
+lsdu-put lid tick lsdu words store output r words' store' output' x after put t c =
+    let is : r ≡ columnsAfter x lid lsdu (tableIn words') = c ∙ ap (columnsAfter x lid lsdu) t in
+    let kept : isAccepted (r .answer) ≡ isTaken x = ap (λ (c : Columns). isAccepted (c .answer)) is ∙ accepted-is x _ _ in
+    record {
+      joined = record { call = record { answer = x; table = tableIn words' }; gives = put .gives; table-is = refl; columns-are = is };
+      words-are = put .words-are ∙ sym (ap (λ (b : Bool). keptWords b (tableIn words') words) kept);
+    }
 
-pub line-facts : (line words store output : List ℕ) (room : ℕ) (taken : Taken) (store' output' : List ℕ)
-    → LineJoined (readLine line room) (lsduOf line) (tableIn words) store output taken store' output' → LineFacts words taken
-unfolding LineJoined refusedWith isAccepted
-line-facts line words store output room taken store' output' j = go (readLine line room) refl j
+module _ (line lsdu lsdu' : List ℕ) (a : LineRead) (got : (lineAnswer a ≡ readLine line (length lsdu)) × (lsdu' ≡ lsduAfter (lineAnswer a) line lsdu))
+    (room : length lsdu ≡ 300) (words store output : List ℕ) (r : Columns) where
+  line-put : (words' store' output' : List ℕ) → LineTaken line (tableIn words) lsdu store output (record { table = tableIn words'; columns = r }) lsdu' store' output'
+      → words' ≡ keptWords (isAccepted (r .answer)) (tableIn words') words → LinePut line words store output r words' store' output'
+  line-put words' store' output' t w = record {
+    joined =
+        subst (λ (n : ℕ). LineJoined (readLine line n) (lsduOf line) (tableIn words) store output (record { table = tableIn words'; columns = r }) store' output') room
+        (t .joined);
+    words-are = w;
+  }
+
+  pub read-put : (words' store' output' : List ℕ) (l t n : ℕ) (part : List ℕ) → a ≡ read.Fields l t n → part ≡ take n lsdu'
+      → LsduPut l t part words store output r words' store' output' → LinePut line words store output r words' store' output'
+  read-put words' store' output' l t n part e p put =
+      line-put words' store' output' (line-joined line (tableIn words) lsdu store output lsdu' store' output' _ a got l t n part e p (put .joined)) (put .words-are)
+
+  pub refused-put : (k : ℕ) → a ≡ read.Refused k → r ≡ refusedWith k 0 → LinePut line words store output r words store output
+  unfolding refusedWith isAccepted keptWords
+  refused-put k e c =
+      line-put words store output (line-refused line (tableIn words) lsdu store output lsdu' store output _ a got k e refl c refl refl)
+      (sym (ap (λ (x : Columns). keptWords (isAccepted (x .answer)) (tableIn words) words) c))
+
+pub answer-fits : (line words store output : List ℕ) (r : Columns) (words' store' output' : List ℕ) → LinePut line words store output r words' store' output'
+    → length (answerText (r .answer)) ≤ 29
+unfolding LineJoined refusedWith columnsAfter
+answer-fits line words store output r words' store' output' put = go (readLine line 300) refl (put .joined)
   where
-    go : (a : Answer Fields) → readLine line room ≡ a → LineJoined a (lsduOf line) (tableIn words) store output taken store' output' → LineFacts words taken
+    go : (a : Answer Fields) → readLine line 300 ≡ a
+        → LineJoined a (lsduOf line) (tableIn words) store output (record { table = tableIn words'; columns = r }) store' output' → length (answerText (r .answer)) ≤ 29
     go (accepted f) e j =
-        let gives = j .gives in
-        let is : isAccepted (taken .columns .answer) ≡ isTaken (j .call .answer) =
-        ap (λ (c : Columns). isAccepted (c .answer)) (j .columns-are) ∙ accepted-is (j .call .answer) _ _ in
-        let small = fragment-small (f .lid) (f .tick) (lsduOf line) (tableIn words) store output (j .call) store' output' gives in
-        record {
-          clear = λ h. fragment-clear (f .lid) (f .tick) (lsduOf line) (tableIn words) store output (j .call) store' output' gives (sym is ∙ h) .sound;
-          stays = λ h. subst (λ (t : Table). Sound t) (sym (j .table-is)) (after-taken (f .lid) (f .tick) (lsduOf line) words store output store' output' (j .call) gives (sym is ∙ h));
-          same = λ h. j .table-is ∙ fragment-same (f .lid) (f .tick) (lsduOf line) (tableIn words) store output (j .call) store' output' gives (sym is ∙ h);
-          short = shown-short (j .call .answer) _ _ _ (j .columns-are) small;
-        }
-    go (refused k) e j =
-        let none : isAccepted (taken .columns .answer) ≡ false = ap (λ (c : Columns). isAccepted (c .answer)) (j .columns-are) in
-        record {
-          clear = λ h. absurd (true≢false (sym h ∙ none));
-          stays = λ h. absurd (true≢false (sym h ∙ none));
-          same = λ h. j .table-is;
-          short = omega (arith, ap (λ (c : Columns). length (answerText (c .answer))) (j .columns-are), refused-short k (read-small line room k e));
-        }
-
-pub answer-fits : (line words store output : List ℕ) (table : Table) (taken : Taken) (store' output' : List ℕ) → table ≡ tableIn words
-    → LineJoined (readLine line 300) (lsduOf line) table store output taken store' output' → length (answerText (taken .columns .answer)) ≤ 29
-answer-fits line words store output table taken store' output' t g =
-    line-facts line words store output 300 taken store' output' (subst (λ (x : Table). LineJoined (readLine line 300) (lsduOf line) x store output taken store' output') t g) .short
+        shown-short (j .call .answer) r _ _ (j .columns-are)
+        (fragment-small (f .lid) (f .tick) (lsduOf line) (tableIn words) store output (j .call) store' output' (j .gives))
+    go (refused k) e j = omega (arith, ap (λ (c : Columns). length (answerText (c .answer))) (j .columns-are), refused-short k (read-small line 300 k e))
 
 -- ---- the contract
 
@@ -165,24 +173,17 @@ module _ (number : ℕ) (line words store output text : List ℕ) (r : ℕ) (wor
   text-refused h n w s o t =
       rw (lt-ltb (length text) 128 h) (record { number-is = n; words-are = w; store-is = s; output-is = o; text-is = t })
 
-  pub line-shown : (table : Table) (taken : Taken) (kept : Bool) (n : ℕ) → 128 ≤ length text → table ≡ tableIn words
-      → LineJoined (readLine line 300) (lsduOf line) table store output taken store' output' → kept ≡ isAccepted (taken .columns .answer)
-      → words' ≡ keptTable kept (taken .table) words
-      → (n ≡ length (answerLineText number (taken .columns .answer) (taken .columns .octets) (taken .columns .dropped)))
-      × (text' ≡ written text 0 (answerLineText number (taken .columns .answer) (taken .columns .octets) (taken .columns .dropped))) × (n ≤ 128)
+  pub line-shown : (columns : Columns) (n : ℕ) → 128 ≤ length text → LinePut line words store output columns words' store' output'
+      → (n ≡ length (answerLineText number (columns .answer) (columns .octets) (columns .dropped)))
+      × (text' ≡ written text 0 (answerLineText number (columns .answer) (columns .octets) (columns .dropped))) × (n ≤ 128)
       → r ≡ answerNumber 0 0 n 0 → BenchLineExported number line words store output text r words' store' output' text'
   unfolding BenchLineExported outputLine UnpackingAnswer
-  line-shown table taken kept n h t g k w shown e =
-      let joined : LineJoined (readLine line 300) (lsduOf line) (tableIn words) store output taken store' output' =
-      subst (λ (x : Table). LineJoined (readLine line 300) (lsduOf line) x store output taken store' output') t g in
-      let facts = line-facts line words store output 300 taken store' output' joined in
-      let is = isAccepted (taken .columns .answer) in
-      let words-are = w ∙ ap (λ (b : Bool). keptTable b (taken .table) words) k ∙ kept-is words (taken .table) is (facts .clear) in
+  line-shown columns n h put shown e =
       rw (le-ltb (length text) 128 h) (record {
-        taken = taken;
-        joined = joined;
-        words-are = words-are;
-        table-back = ap tableIn words-are ∙ back-is words (taken .table) is (facts .stays) (facts .same);
+        taken = record { table = tableIn words'; columns = columns };
+        joined = put .joined;
+        words-are = put .words-are;
+        table-back = refl;
         text-is = shown .1;
         number-is = e ∙ ap (λ (m : ℕ). answerNumber 0 0 m 0) (shown .0);
         told = unpacking-answer 0 0 _ 0 (omega arith) (omega arith) (omega (arith, shown .0, shown .2)) (omega arith);

@@ -11,12 +11,13 @@ use Rattle.slots.specs.declared.SweepResult.{SweepResult}
 use Rattle.slots.specs.declared.SweepAnswer.{SweepAnswer}
 use Rattle.slots.specs.Slots.{isSound}
 use Rattle.slots.specs.Sweep.{ExpiryGives, ReleaseGives}
+use Rattle.reassembly.specs.declared.FragmentAnswer.{FragmentAnswer}
 use Rattle.reassembly.specs.declared.FragmentResult.{FragmentResult}
 use Rattle.reassembly.specs.Engine.{FragmentGives}
 use Rattle.words.specs.TableWords.{tableIn, tableAfter, UnpackingPacked, WrongLength}
 use Rattle.words.proofs.TableLaws.{unpacking-packed, wrong-length, eight-in}
 use Rattle.exports.specs.Fragments.{keptWords, isTaken, fragmentNumber, FragmentExported, isSwept, sweepNumber, SweepExported, ExpiryExported, ReleaseExported}
-use Rattle.exports.specs.Putting.{keptTable, SweepPut}
+use Rattle.exports.specs.Putting.{keptTable, FragmentPut, SweepPut}
 use Rattle.exports.proofs.Staying.{Sound, fragment-stays, expiry-stays, release-stays}
 use Rattle.exports.proofs.Answering.{fragment-told, fragment-clear, fragment-same, SweepFacts, expiry-facts, release-facts}
 
@@ -49,12 +50,12 @@ long-words words h = go (eqb (length words) 41) refl
     go false e = absurd (true≢false (sym h ∙ wrong-length words (eqb-false (length words) 41 e)))
 
 module _ (words : List ℕ) (after : Table) where
-  pub kept-is : (taken : Bool) → (taken ≡ true → isSound (tableIn words) ≡ true) → keptTable taken after words ≡ keptWords taken after words
+  kept-is : (taken : Bool) → (taken ≡ true → isSound (tableIn words) ≡ true) → keptTable taken after words ≡ keptWords taken after words
   unfolding tableAfter keptTable keptWords
   kept-is true sound = rw (eq-eqb (length words) 41 (long-words words (sound refl)))
   kept-is false sound = refl
 
-  pub back-is : (taken : Bool) → (taken ≡ true → Sound after) → (taken ≡ false → after ≡ tableIn words) → tableIn (keptWords taken after words) ≡ after
+  back-is : (taken : Bool) → (taken ≡ true → Sound after) → (taken ≡ false → after ≡ tableIn words) → tableIn (keptWords taken after words) ≡ after
   unfolding UnpackingPacked keptWords
   back-is true stays same = unpacking-packed after (stays refl .eight) (stays refl .sound)
   back-is false stays same = sym (same refl)
@@ -67,32 +68,41 @@ sound-in words h = record { sound = h; eight = eight-in words }
 
 module _ (lid tick : ℕ) (lsdu words store output store' output' : List ℕ) (call : FragmentResult)
     (gives : FragmentGives lid tick lsdu (tableIn words) store output call store' output') where
-  pub after-taken : isTaken (call .answer) ≡ true → Sound (call .table)
+  after-taken : isTaken (call .answer) ≡ true → Sound (call .table)
   after-taken h =
       let c = fragment-clear lid tick lsdu (tableIn words) store output call store' output' gives h in
       fragment-stays lid tick lsdu (tableIn words) store output call store' output' (sound-in words (c .sound)) (c .long) gives
 
-  pub fragment-kept : (words' : List ℕ) → words' ≡ keptTable (isTaken (call .answer)) (call .table) words → words' ≡ keptWords (isTaken (call .answer)) (call .table) words
-  fragment-kept words' e =
-      e ∙ kept-is words (call .table) (isTaken (call .answer)) (λ h. fragment-clear lid tick lsdu (tableIn words) store output call store' output' gives h .sound)
+  fragment-put : (words' : List ℕ) → words' ≡ keptTable (isTaken (call .answer)) (call .table) words
+      → FragmentPut lid tick lsdu words store output (call .answer) words' store' output'
+  fragment-put words' e =
+      let taken = isTaken (call .answer) in
+      let kept = e ∙ kept-is words (call .table) taken (λ h. fragment-clear lid tick lsdu (tableIn words) store output call store' output' gives h .sound) in
+      let same = fragment-same lid tick lsdu (tableIn words) store output call store' output' gives in
+      let back : tableIn words' ≡ call .table = ap tableIn kept ∙ back-is words (call .table) taken after-taken same in
+      record {
+        gives = record { answer-is = gives .answer-is; table-is = back ∙ gives .table-is; store-is = gives .store-is; output-is = gives .output-is };
+        words-are = kept ∙ sym (ap (λ (t : Table). keptWords taken t words) back);
+      }
 
-  pub fragment-back : (words' : List ℕ) → words' ≡ keptWords (isTaken (call .answer)) (call .table) words → tableIn words' ≡ call .table
-  fragment-back words' e =
-      ap tableIn e ∙ back-is words (call .table) (isTaken (call .answer)) after-taken (fragment-same lid tick lsdu (tableIn words) store output call store' output' gives)
-
-pub fragment-exported : (lid tick : ℕ) (lsdu words store output : List ℕ) (r : ℕ) (words' store' output' : List ℕ) (table : Table) (call : FragmentResult) (taken : Bool)
+pub fragment-joined : (lid tick : ℕ) (lsdu words store output words' store' output' : List ℕ) (table : Table) (call : FragmentResult) (taken : Bool)
     → table ≡ tableIn words → FragmentGives lid tick lsdu table store output call store' output' → taken ≡ isTaken (call .answer)
-    → words' ≡ keptTable taken (call .table) words → r ≡ fragmentNumber (call .answer) → FragmentExported lid tick lsdu words store output r words' store' output'
-fragment-exported lid tick lsdu words store output r words' store' output' table call taken t g k w n =
-    let gives = subst (λ (x : Table). FragmentGives lid tick lsdu x store output call store' output') t g in
-    let kept = fragment-kept lid tick lsdu words store output store' output' call gives words' (w ∙ ap (λ (b : Bool). keptTable b (call .table) words) k) in
+    → words' ≡ keptTable taken (call .table) words → FragmentPut lid tick lsdu words store output (call .answer) words' store' output'
+fragment-joined lid tick lsdu words store output words' store' output' table call taken t g k w =
+    fragment-put lid tick lsdu words store output store' output' call
+    (subst (λ (x : Table). FragmentGives lid tick lsdu x store output call store' output') t g) words' (w ∙ ap (λ (b : Bool). keptTable b (call .table) words) k)
+
+pub fragment-exported : (lid tick : ℕ) (lsdu words store output : List ℕ) (r : ℕ) (words' store' output' : List ℕ) (x : FragmentAnswer)
+    → FragmentPut lid tick lsdu words store output x words' store' output' → r ≡ fragmentNumber x → FragmentExported lid tick lsdu words store output r words' store' output'
+fragment-exported lid tick lsdu words store output r words' store' output' x put n =
+    let call : FragmentResult = record { answer = x; table = tableIn words' } in
     record {
       call = call;
-      gives = gives;
+      gives = put .gives;
       number-is = n;
-      told = fragment-told lid tick lsdu (tableIn words) store output call store' output' gives;
-      words-are = kept;
-      table-back = fragment-back lid tick lsdu words store output store' output' call gives words' kept;
+      told = fragment-told lid tick lsdu (tableIn words) store output call store' output' (put .gives);
+      words-are = put .words-are;
+      table-back = refl;
     }
 
 -- ---- expiry and release

@@ -2,37 +2,49 @@
 ghost use mathlib.Core.Path.{_≡_};
 ghost use Prim.Native.Nat.{_≤_};
 ghost use lib.ListN.{length};
-ghost use Rattle.bench_lines.specs.Line.{readLine};
 ghost use Rattle.bench_lines.specs.Text.{answerText, answerLineText, written};
-ghost use Rattle.bench_joining.specs.Joined.{LineJoined, lsduOf};
-ghost use Rattle.exports.specs.BenchLine.{textOctets, lsduRoom, isAccepted, BenchLineExported};
-use crate::fragments::keep_table;
-use bench_joining::Taken;
+ghost use Rattle.exports.specs.BenchLine.{textOctets, BenchLineExported};
+ghost use Rattle.exports.specs.Putting.{LsduPut, LinePut};
+use crate::fragments::joined;
+use bench_joining::Columns;
+use bench_joining::front;
+use bench_joining::no_octets;
+use bench_joining::shown;
 use bench_lines::Appended;
 use bench_lines::BenchAnswer;
-use slots::Table;
+use bench_lines::LineRead;
 use words::packed;
 use words::table_in;
 
 // The octets of a line of output: more than any has.
 const TEXT_OCTETS: usize = 128;
 
-fn accepted(answer: BenchAnswer) -> bool
-    ensures { λ r. ⌜ r ≡ isAccepted answer ⌝ }
+// The fragment call for a line's LSDU, and what to show of it.
+fn join(
+    lid: u32,
+    tick: u32,
+    lsdu: &[u8],
+    table: &mut [u32],
+    store: &mut [u8],
+    out: &mut [u8],
+) -> Columns
+    ensures { λ r. ⌜ LsduPut lid tick (now (lsdu .entry)) (now (table .entry)) (now (store .entry)) (now (out .entry)) r (now (table .exit)) (now (store .exit)) (now (out .exit)) ⌝ }
 {
-    match answer {
-        BenchAnswer::Held => true,
-        BenchAnswer::Whole => true,
-        BenchAnswer::Refused(_) => false,
-    }
+    let answer = joined(lid, tick, lsdu, table, store, out);
+    shown(answer, lid, lsdu, table_in(table))
 }
 
 // Takes a line; its LSDU has room in 300 octets.
-fn take(line: &[u8], table: Table, store: &mut [u8], out: &mut [u8]) -> Taken
-    ensures { λ r. ⌜ LineJoined (readLine (now (line .entry)) lsduRoom) (lsduOf (now (line .entry))) table (now (store .entry)) (now (out .entry)) r (now (store .exit)) (now (out .exit)) ⌝ }
+fn take(line: &[u8], table: &mut [u32], store: &mut [u8], out: &mut [u8]) -> Columns
+    ensures { λ r. ⌜ LinePut (now (line .entry)) (now (table .entry)) (now (store .entry)) (now (out .entry)) r (now (table .exit)) (now (store .exit)) (now (out .exit)) ⌝ }
 {
     let mut lsdu = [0u8; 300];
-    bench_joining::take_line(line, table, &mut lsdu, store, out)
+    match bench_lines::read_line(line, &mut lsdu) {
+        LineRead::Fields { lid, tick, octets } => {
+            join(lid, tick, front(&lsdu, octets), table, store, out)
+        }
+        LineRead::Refused(number) => no_octets(number, 0),
+    }
 }
 
 // Writes a line of output to the front of `text` and answers how many octets it has.
@@ -62,11 +74,8 @@ pub extern "C" fn semuryeon_bench_line(
     if text.len() < TEXT_OCTETS {
         return packed(refusals::OUTPUT_TOO_SMALL, 0, 0, 0);
     }
-    let taken = take(line, table_in(table), store, out);
-    let after = taken.table;
-    let columns = taken.columns;
+    let columns = take(line, table, store, out);
     let answer = columns.answer;
-    keep_table(accepted(answer), after, table);
     packed(
         0,
         0,

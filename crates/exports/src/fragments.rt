@@ -1,7 +1,7 @@
 // Joining: the table lives in 41 words, all zero at first, and the store and output are lent.
 ghost use mathlib.Core.Path.{_≡_};
 ghost use Rattle.exports.specs.Fragments.{isTaken, fragmentNumber, FragmentExported, ExpiryExported, ReleaseExported};
-ghost use Rattle.exports.specs.Putting.{keptTable, SweepPut};
+ghost use Rattle.exports.specs.Putting.{keptTable, FragmentPut, SweepPut};
 use reassembly::FragmentAnswer;
 use slots::SweepAnswer;
 use slots::SweepResult;
@@ -31,13 +31,31 @@ fn fragment_number(answer: FragmentAnswer) -> u64
 }
 
 // Puts the table of an accepted call; after a refusal the words stay as they were.
-pub(crate) fn keep_table(accepted: bool, after: Table, table: &mut [u32])
+fn keep_table(accepted: bool, after: Table, table: &mut [u32])
     ensures { λ _. ⌜ now (table .exit) ≡ keptTable accepted after (now (table .entry)) ⌝ }
 {
     if !accepted {
         return;
     }
     put_table(after, table);
+}
+
+// One fragment over the table's words. The exported calls that join share it, so that the fragment call has one caller here and is inlined.
+pub(crate) fn joined(
+    lid: u32,
+    tick: u32,
+    lsdu: &[u8],
+    table: &mut [u32],
+    store: &mut [u8],
+    out: &mut [u8],
+) -> FragmentAnswer
+    ensures { λ r. ⌜ FragmentPut lid tick (now (lsdu .entry)) (now (table .entry)) (now (store .entry)) (now (out .entry)) r (now (table .exit)) (now (store .exit)) (now (out .exit)) ⌝ }
+{
+    let result = reassembly::fragment(lid, tick, lsdu, table_in(table), store, out);
+    let answer = result.answer;
+    let after = result.table;
+    keep_table(taken(answer), after, table);
+    answer
 }
 
 // One fragment: kind 1 is held, 2 whole; first the octets held or delivered, second those dropped. Refused 1 to 12.
@@ -52,11 +70,7 @@ pub extern "C" fn semuryeon_fragment(
 ) -> u64
     ensures { λ r. ⌜ FragmentExported lid tick (now (lsdu .entry)) (now (table .entry)) (now (store .entry)) (now (out .entry)) r (now (table .exit)) (now (store .exit)) (now (out .exit)) ⌝ }
 {
-    let result = reassembly::fragment(lid, tick, lsdu, table_in(table), store, out);
-    let answer = result.answer;
-    let after = result.table;
-    keep_table(taken(answer), after, table);
-    fragment_number(answer)
+    fragment_number(joined(lid, tick, lsdu, table, store, out))
 }
 
 fn swept(result: SweepResult, table: &mut [u32]) -> u64

@@ -20,8 +20,8 @@ join-requires c κs = search needs
 enum-known-number : tie.Need-enum-known-number
 enum-known-number c = search needs
 
-columns-requires : tie.Need-columns-requires
-columns-requires c κs = search needs
+no-octets-requires : tie.Need-no-octets-requires
+no-octets-requires c κs = search needs
 
 same-length : tie.Need-same-length
 same-length c = search needs
@@ -44,7 +44,7 @@ same-length-4 c = search needs
 
 returns-2 : tie.Need-returns-2
 returns-2 c =
-    line-refused _ _ _ _ _ _ _ _ _ _ (c .before .before .before .before .before .before .read-line .ensures) _ (c .before .before .number .given .1) refl (c .columns .ensures) refl refl
+    line-refused _ _ _ _ _ _ _ _ _ _ (c .before .before .before .before .before .before .read-line .ensures) _ (c .before .before .number .given .1) refl (c .no-octets .ensures) refl refl
 
 pub take-line-spec : {M : Type 1} → statement M
 take-line-spec =
@@ -55,7 +55,7 @@ take-line-spec =
     front-requires
     join-requires
     enum-known-number
-    columns-requires
+    no-octets-requires
     same-length
     same-length-2
     same-length-3

@@ -11,28 +11,15 @@ packed-requires c κs = search needs
 
 returns : tie.Need-returns
 returns c =
-    let start = c .before .before .before .before .before .before .before in
-    text-refused _ _ _ _ _ (now (start .args .text)) _ _ _ _ _ (c .before .if1 .taken) (c .packed .ensures) refl refl refl refl
-
-table-in-requires : tie.Need-table-in-requires
-table-in-requires c κs = search needs
+    text-refused _ _ _ _ _ (now (c .before .before .before .before .before .before .before .args .text)) _ _ _ _ _ (c .before .if1 .taken) (c .packed .ensures) refl refl refl refl
 
 take-requires : tie.Need-take-requires
 take-requires c κs = search needs
 
-accepted-requires : tie.Need-accepted-requires
-accepted-requires c κs = search needs
-
-keep-table-requires : tie.Need-keep-table-requires
-keep-table-requires c κs = search needs
-
 show-requires : tie.Need-show-requires
 show-requires c κs =
-    let c12 = c .before .before .before .before .before .before .before .before .before .before .before .before in
-    let c15 = c12 .before .before .before in
-    let c17 = c15 .before .before in
-    let start = c17 .before .before .before .before .before .before in
-    (c17 .if1 .left, answer-fits _ (now (start .args .table)) _ _ (c15 .table-in .result) (c12 .take .result) _ _ (c15 .table-in .ensures) (c12 .take .ensures))
+    let c7 = c .before .before .before .before .before .before .before in
+    (c7 .before .before .before .before .if1 .left, answer-fits _ _ _ _ _ _ _ _ (c7 .take .ensures))
 
 packed-requires-2 : tie.Need-packed-requires-2
 packed-requires-2 c κs = search needs
@@ -51,13 +38,10 @@ same-length-4 c = search needs
 
 returns-2 : tie.Need-returns-2
 returns-2 c =
-    let c9 = c .before .before .before .before .before .before .before .before .before in
-    let c16 = c9 .before .before .before .before .before .before .before in
-    let c19 = c16 .before .before .before in
-    let c21 = c19 .before .before in
-    let start = c21 .before .before .before .before .before .before in
-    line-shown (start .args .number) (now (start .args .line)) (now (start .args .table)) _ _ (now (start .args .text)) _ _ _ _ _ (c19 .table-in .result) (c16 .take .result) _ _ (c21 .if1 .left)
-    (c19 .table-in .ensures) (c16 .take .ensures) (c9 .accepted .ensures) (c .before .before .before .before .before .before .before .keep-table .ensures) (c .before .before .before .show .ensures) (c .packed2 .ensures)
+    let c11 = c .before .before .before .before .before .before .before .before .before .before .before in
+    let c15 = c11 .before .before .before .before in
+    let start = c15 .before .before .before .before .before .before in
+    line-shown (start .args .number) _ _ _ _ (now (start .args .text)) _ _ _ _ _ _ _ (c15 .if1 .left) (c11 .take .ensures) (c .before .before .before .show .ensures) (c .packed2 .ensures)
 
 pub semuryeon-bench-line-spec : {M : Type 1} → statement M
 semuryeon-bench-line-spec =
@@ -65,10 +49,7 @@ semuryeon-bench-line-spec =
     (tie.spec
     packed-requires
     returns
-    table-in-requires
     take-requires
-    accepted-requires
-    keep-table-requires
     show-requires
     packed-requires-2
     same-length
