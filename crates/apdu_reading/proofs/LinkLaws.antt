@@ -21,7 +21,7 @@ use Rattle.apdu.specs.declared.lists.Row.{Row}
 use Rattle.apdu.specs.declared.lists.Entry.{Entry}
 use Rattle.apdu.specs.Values.{bitOf, num, if, idList, entriesValues, rowsOf, listValues, bstValues, vstValues, emptyRow, emptyEntry}
 use Rattle.apdu.specs.Sound.{entriesSound, bstSound, vstSound}
-use Rattle.apdu.proofs.Laws.{sound-if, own-sound, rows-of-append}
+use Rattle.apdu.proofs.Laws.{zero-tidy, sound-if, own-sound, rows-of-append}
 use Rattle.apdu_reading.specs.declared.cursor.Cursor.{Cursor}
 use Rattle.apdu_reading.specs.declared.link.Configuration.{Configuration}
 use Rattle.apdu_reading.specs.Cursor.{component, pieceOf, Reads, Inside}
@@ -33,7 +33,7 @@ use Rattle.apdu_reading.proofs.Pieces.{sees, good, fine}
 use Rattle.apdu_reading.proofs.Components.{lead-is, fixed-is}
 use Rattle.apdu_reading.proofs.Chains.{valued, itself, nothing, then, still, clean, enter, alone}
 use Rattle.apdu_reading.proofs.Strings.{fault-of, room-of, integer-reads, integer-room, piece-number}
-use Rattle.apdu_reading.proofs.Boxes.{and-then, found-nothing, if-join, empty}
+use Rattle.apdu_reading.proofs.Boxes.{and-then, found-nothing, if-join, unused}
 use Rattle.apdu_reading.proofs.Leads.{set-bit, narrow, lead-in, lead-room}
 
 -- ---- an application list
@@ -157,10 +157,10 @@ pub nothing-stored : (c : Cursor) {rows : List Row} {es : List Entry} → rows �
 nothing-stored c e f r =
     rw (e, f)
     (record {
-      free = record { sum = λ z. omega arith; rest = record { rest = λ j w. empty 32 j }; long = refl; few = omega arith };
+      free = record { sum = λ z. omega arith; rest = unused; long = refl; few = omega arith };
       rest = record { rest = λ j w. empty-entry 32 j };
       long = refl;
-      each = λ z j. rw (empty-entry 32 j) (record { are = λ q. (refl, tt) }, record { are = λ q. (refl, (refl, (refl, (refl, tt)))) });
+      each = λ z j. rw (empty-entry 32 j) (zero-tidy, record { are = λ q. (refl, (refl, (refl, (refl, tt)))) }, zero-tidy);
     })
 
 -- ---- what is stored is what the record's values say
