@@ -12,7 +12,7 @@ use Rattle.apdu_format.specs.Reading.{Value}
 use Rattle.apdu.specs.declared.lists.Row.{Row}
 use Rattle.apdu.specs.declared.lists.Entry.{Entry}
 use Rattle.apdu.specs.Values.{rowValues, rowsValues, entryValues, entriesValues, entryRows, rowsOf}
-use Rattle.apdu.specs.Tidy.{entryTidy}
+use Rattle.apdu.specs.Tidy.{Absent, entryTidy}
 use Rattle.apdu.specs.Sound.{partFits, nested, partsFit, closes, soundIf, entrySound, entriesSound}
 
 pub and-unit : (b : Bool) → (b && true) ≡ b
@@ -123,6 +123,10 @@ own-sound n (e ∷ es) rs =
     ap (λ (l : List Row). entrySound n e l && entriesSound n es (drop (entryRows e) rs)) (sym (take-take (entryRows e) (entryRows e + rowsOf es) rs (omega arith)))
     ∙ ap (λ (b : Bool). entrySound n e (take (entryRows e) (take (entryRows e + rowsOf es) rs)) && b)
     (own-sound n es (drop (entryRows e) rs) ∙ ap (entriesSound n es) (sym (drop-take (entryRows e) (rowsOf es) (entryRows e + rowsOf es) rs refl)))
+
+-- 0 is tidy, whether it is there or not
+pub zero-tidy : {p : Bool} → Absent p (0 ∷ [])
+zero-tidy = record { are = λ z. (refl, tt) }
 
 -- an entry without a parameter has no rows
 pub tidy-rows : (e : Entry) → entryTidy e → entryRows e ≡ e .rows

@@ -3,8 +3,10 @@
 use Prim.Native.Nat.{ℕ, _+_, _≤_}
 use mathlib.Core.Path.{_≡_}
 use mathlib.Core.List.{List, [], _∷_}
-use mathlib.Core.Bool.{Bool, false}
+use mathlib.Core.Bool.{Bool, false, _||_}
 use lib.ListN.{getD, take}
+use lib.Dec.{eqb}
+use Rattle.apdu_format.specs.Component.{octetString, attributeIdList}
 use Rattle.apdu.specs.declared.lists.Row.{Row}
 use Rattle.apdu.specs.declared.lists.Entry.{Entry}
 use Rattle.apdu.specs.declared.records.Request.{Request}
@@ -28,8 +30,16 @@ zeros (n ∷ ns) = (n ≡ 0) × zeros ns
 pub record Absent (p : Bool) (ns : List ℕ) : Type 0 where
   pub are : p ≡ false → zeros ns
 
--- the rows from the used ones on are empty
+-- a container has a start only where it holds octets or ids
+abbrev pub startTidy : ℕ → ℕ → Type 0
+startTidy kind start = Absent (eqb kind octetString || eqb kind attributeIdList) (start ∷ [])
+
+abbrev pub rowTidy : Row → Type 0
+rowTidy r = startTidy (r .kind) (r .start)
+
+-- each row is tidy, and from the used ones on they are empty
 pub record RowsTidy (used : ℕ) (rs : List Row) : Type 0 where
+  pub each : (j : ℕ) → rowTidy (getD rs j emptyRow)
   pub rest : (j : ℕ) → used ≤ j → getD rs j emptyRow ≡ emptyRow
 
 pub record EntriesTidy (used : ℕ) (es : List Entry) : Type 0 where
@@ -38,11 +48,12 @@ pub record EntriesTidy (used : ℕ) (es : List Entry) : Type 0 where
 abbrev pub requestTidy : Request → Type 0
 requestTidy m =
     Absent (m .«has_credentials») (m .credentials ∷ m .«credentials_length» ∷ []) × Absent (m .«has_parameter») (m .kind ∷ m .n ∷ m .start ∷ m .rows ∷ [])
-    × Absent (m .«has_iid») (m .iid ∷ [])
+    × Absent (m .«has_iid») (m .iid ∷ []) × startTidy (m .kind) (m .start)
 
 abbrev pub actionResponseTidy : ActionResponse → Type 0
 actionResponseTidy m =
     Absent (m .«has_iid») (m .iid ∷ []) × Absent (m .«has_parameter») (m .kind ∷ m .n ∷ m .start ∷ m .rows ∷ []) × Absent (m .«has_ret») (m .ret ∷ [])
+    × startTidy (m .kind) (m .start)
 
 abbrev pub responseTidy : Response → Type 0
 responseTidy m = Absent (m .«has_iid») (m .iid ∷ []) × Absent (m .«has_ret») (m .ret ∷ [])
@@ -65,7 +76,8 @@ abbrev pub vstTidy : Vst → Type 0
 vstTidy m = Absent (m .«has_status») (m .status ∷ [])
 
 abbrev pub entryTidy : Entry → Type 0
-entryTidy e = Absent (e .«has_eid») (e .eid ∷ []) × Absent (e .«has_parameter») (e .kind ∷ e .n ∷ e .start ∷ e .rows ∷ [])
+entryTidy e =
+    Absent (e .«has_eid») (e .eid ∷ []) × Absent (e .«has_parameter») (e .kind ∷ e .n ∷ e .start ∷ e .rows ∷ []) × startTidy (e .kind) (e .start)
 
 -- of n entries each is tidy, and what is behind them and their rows is empty
 pub record ListsTidy (n : ℕ) (es : List Entry) (rs : List Row) : Type 0 where

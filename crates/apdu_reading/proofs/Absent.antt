@@ -12,6 +12,7 @@ use Rattle.apdu.specs.Values.{num-if, if}
 use Rattle.apdu_reading.specs.declared.cursor.Cursor.{Cursor}
 use Rattle.apdu_reading.specs.declared.container.Head.{Head}
 use Rattle.apdu.specs.Sound.{partFits}
+use Rattle.apdu.proofs.Laws.{zero-tidy}
 use Rattle.apdu_reading.specs.Cursor.{stateOf, component, markedAt, Reads, Inside}
 use Rattle.apdu_reading.specs.Rows.{Opens}
 use Rattle.apdu_reading.specs.Optional.{Maybe, HeadMaybe, AttributesMaybe}
@@ -41,12 +42,29 @@ part-absent s p is c vs f e = (absent-maybe s p is c vs f e, record { so = λ h.
 
 pub head-there : (s : List ℕ) (p : Bool) (c : Cursor) {r : Head} → p ≡ true → Opens s 1 c r → HeadMaybe s p c r
 head-there s p c t o =
-    record { leads = rw t (record { so = o .so }); room = o .room; small = o .small; clean = o .clean; parts = o .parts; absent = λ f. unlike t f }
+    record {
+      leads = rw t (record { so = o .so });
+      room = o .room;
+      small = o .small;
+      clean = o .clean;
+      parts = o .parts;
+      absent = λ f. unlike t f;
+      tidy = o .tidy;
+    }
 
 pub head-absent : (s : List ℕ) (p : Bool) (c : Cursor) → p ≡ false → HeadMaybe s p c (head 0 0 0 c)
 unfolding times partFits
 head-absent s p c f =
-    rw f (record { leads = record { so = λ log. rw append-nil }; room = λ z. omega arith; small = (omega arith, omega arith); clean = λ z. z; parts = λ z. refl; absent = λ g. (refl, refl, refl) })
+    rw f
+    (record {
+      leads = record { so = λ log. rw append-nil };
+      room = λ z. omega arith;
+      small = (omega arith, omega arith);
+      clean = λ z. z;
+      parts = λ z. refl;
+      absent = λ g. (refl, refl, refl);
+      tidy = zero-tidy;
+    })
 
 pub attributes-there : (s : List ℕ) (p : Bool) (c : Cursor) {r : Cursor} → p ≡ true → (r ≡ component s (rowCount 1) c) × (r .value < 128) → AttributesMaybe s p c r
 attributes-there s p c t e =

@@ -17,8 +17,9 @@ use Rattle.apdu_format.specs.Reading.{Value, State}
 use Rattle.apdu_format.proofs.Runs.{runs-none}
 use Rattle.apdu.specs.declared.lists.Row.{Row}
 use Rattle.apdu.specs.Values.{num, if, headValues, rowValues, rowsValues, containerValues, emptyRow}
-use Rattle.apdu.specs.Tidy.{RowsTidy}
+use Rattle.apdu.specs.Tidy.{startTidy, RowsTidy}
 use Rattle.apdu.specs.Sound.{nested, rowsSound, containerSound}
+use Rattle.apdu.proofs.Laws.{zero-tidy}
 use Rattle.apdu.proofs.Dues.{two, one, due-two, due-one, total-two, total-one}
 use Rattle.apdu_reading.specs.declared.cursor.Cursor.{Cursor}
 use Rattle.apdu_reading.specs.declared.container.Head.{Head}
@@ -48,17 +49,20 @@ found-nothing {s} {c} {r} {vs} p h =
 
 -- ---- rows of which none is used
 
-pub empty : (n j : ℕ) → getD (replicate n emptyRow) j emptyRow ≡ emptyRow
+empty : (n j : ℕ) → getD (replicate n emptyRow) j emptyRow ≡ emptyRow
 empty zero j = refl
 empty (suc n) zero = refl
 empty (suc n) (suc j) = empty n j
+
+pub unused : RowsTidy 0 (replicate 32 emptyRow)
+unused = record { each = λ j. rw (empty 32 j) zero-tidy; rest = λ j w. empty 32 j }
 
 abbrev rowsAt : Cursor → ℕ → List Row → Rows
 rowsAt c used rows = record { cursor = c; used = used; rows = rows }
 
 pub fresh : (o : Due) (c : Cursor) {rows : List Row} → rows ≡ replicate 32 emptyRow → (c .fault ≡ 0 → total o + c .room ≡ 32) → Ready o (rowsAt c 0 rows)
 fresh o c e h =
-    rw e (record { sum = λ z. let a = h z in omega arith; rest = record { rest = λ j w. empty 32 j }; long = refl; few = omega arith })
+    rw e (record { sum = λ z. let a = h z in omega arith; rest = unused; long = refl; few = omega arith })
 
 -- no values, no rows
 pub no-rows : (s : List ℕ) (n : ℕ) (rs : List Row) → rowsValues s (take n rs) ≡ [] → n ≤ length rs → n ≡ 0
@@ -82,6 +86,7 @@ pub record Boxed (s : List ℕ) (p : Bool) (c : Cursor) (kind n start : ℕ) (r 
   pub reads : Reads s (when p (container 1 ∷ [])) c (r .cursor) (if p (containerValues s kind n start (take (r .used) (r .rows))))
   pub sound : r .cursor .fault ≡ 0 → containerSound (length s) kind n start (take (r .used) (r .rows)) ≡ true
   pub absent : p ≡ false → (kind ≡ 0) × (n ≡ 0) × (start ≡ 0)
+  pub tidy : startTidy kind start
   pub kept : Kept p r
 
 module _ (s : List ℕ) (p : Bool) (c : Cursor) {h : Head} (m : HeadMaybe s p c h) {n : ℕ} (e : n ≡ nested (h .kind) (h .n)) where
@@ -111,6 +116,7 @@ module _ (s : List ℕ) (p : Bool) (c : Cursor) {h : Head} (m : HeadMaybe s p c 
           reads = valued (λ g. if-join p (headValues s (h .kind) (h .n) (h .start)) (rowsValues s (take (q .used) (q .rows))) (λ z. none-found z g)) (and-then (m .leads) rows-read);
           sound = box-sound;
           absent = m .absent;
+          tidy = m .tidy;
           kept =
               record {
                 rest = f .rest;

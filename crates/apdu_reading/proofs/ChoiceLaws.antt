@@ -14,10 +14,9 @@ use Rattle.apdu_format.specs.Table.{table, layoutOf}
 use Rattle.apdu_format.specs.Rules.{shape, begins, checksOf, brings, announced}
 use Rattle.apdu_format.specs.Reading.{Value, fields, numbersOf, sum, need, fieldsOf, valueAt, State, Step, beginning, faultOf, judged, step, runs}
 use Rattle.apdu_format.proofs.Runs.{runs-one}
-use Rattle.apdu.specs.declared.lists.Row.{Row}
 use Rattle.apdu.specs.declared.lists.Entry.{Entry}
-use Rattle.apdu.specs.Values.{emptyRow, emptyEntry}
-use Rattle.apdu.specs.Tidy.{EntriesTidy, RowsTidy}
+use Rattle.apdu.specs.Values.{emptyEntry}
+use Rattle.apdu.specs.Tidy.{EntriesTidy}
 use Rattle.apdu_reading.specs.declared.cursor.Cursor.{Cursor}
 use Rattle.apdu_reading.specs.Cursor.{cursor, stateOf, Reads}
 use Rattle.apdu_reading.specs.Messages.{Begun}
@@ -25,7 +24,6 @@ use Rattle.apdu_reading.specs.Answers.{first, Chosen}
 use Rattle.apdu_reading.proofs.Pieces.{sees, Good, good, fine}
 use Rattle.apdu_reading.proofs.Chains.{still, enter}
 use Rattle.apdu_reading.proofs.Strings.{fault-of, piece-number}
-use Rattle.apdu_reading.proofs.Boxes.{empty}
 use Rattle.apdu_reading.proofs.ListLaws.{empty-entry}
 
 module _ (s : List ℕ) (c : Cursor) (h : Chosen s c) where
@@ -69,9 +67,6 @@ lead-as s j k c {r} {vs} e p =
 
 pub no-entries-tidy : {es : List Entry} → es ≡ replicate 32 emptyEntry → EntriesTidy 0 es
 no-entries-tidy e = rw e (record { rest = λ j w. empty-entry 32 j })
-
-pub no-rows-tidy : {rs : List Row} → rs ≡ replicate 32 emptyRow → RowsTidy 0 rs
-no-rows-tidy e = rw e (record { rest = λ j w. empty 32 j })
 
 pub nine : {n : ℕ} → n < 10 → 8 ≤ n → (n ≡ 8 → ⊥) → n ≡ 9
 nine h k a = omega (arith, a)

@@ -15,8 +15,11 @@ use Rattle.apdu_format.specs.Limits.{mostCounted, deepest}
 use Rattle.apdu_format.specs.Component.{Component, integer, stringForm, idCount, rowCount, container}
 use Rattle.apdu_format.specs.Rules.{brings, content, times, announced, knownKind}
 use Rattle.apdu_format.specs.Reading.{Value, numbersOf, Step, runs}
+use Rattle.apdu_format.proofs.Tests.{never}
 use Rattle.apdu_format.proofs.Runs.{runs-none, runs-one}
 use Rattle.apdu.specs.Values.{num, str, idList, headValues}
+use Rattle.apdu.specs.Tidy.{startTidy}
+use Rattle.apdu.proofs.Laws.{zero-tidy}
 use Rattle.apdu_reading.specs.declared.cursor.Cursor.{Cursor}
 use Rattle.apdu_reading.specs.declared.container.Head.{Head}
 use Rattle.apdu.specs.Sound.{nested, partFits}
@@ -100,6 +103,7 @@ module _ (s : List ℕ) (depth : ℕ) (c : Cursor) {k : Cursor} (x : k ≡ compo
         small = (omega arith, omega arith);
         clean = λ h. absurd (n h);
         parts = λ h. absurd (n h);
+        tidy = zero-tidy;
       }
 
   module _ (h : k .fault ≡ 0) where
@@ -134,9 +138,9 @@ module _ (s : List ℕ) (depth : ℕ) (c : Cursor) {k : Cursor} (x : k ≡ compo
 
     -- a container without rows
     plain : (K n start : ℕ) {is : List Component} {d : Cursor} {vs : List Value} → Reads s is k d vs → nested K n ≡ 0 → content depth (k .value) ≡ is → num (k .value) ∷ vs ≡ headValues s K n start
-        → d .room ≡ k .room → K < 128 → n < 128 → (d .fault ≡ 0 → partFits (length s) K n start ≡ true) → Opens s depth c (head K n start d)
+        → d .room ≡ k .room → K < 128 → n < 128 → (d .fault ≡ 0 → partFits (length s) K n start ≡ true) → startTidy K start → Opens s depth c (head K n start d)
     unfolding brings numbersOf times
-    plain K n start {is} {d} {vs} r z a b q u v f =
+    plain K n start {is} {d} {vs} r z a b q u v f t =
         let whole : Reads s (container depth ∷ []) c d (headValues s K n start) =
         valued (λ g. ap (λ (v : Value). v ∷ vs) kind-saw ∙ b) (enter (container depth) c x (λ g. rw (kind-saw, a) r) (λ g. absurd (g h))) in
         record {
@@ -146,19 +150,23 @@ module _ (s : List ℕ) (depth : ℕ) (c : Cursor) {k : Cursor} (x : k ≡ compo
           small = (u, v);
           clean = λ g. clean whole g;
           parts = f;
+          tidy = t;
         }
 
     pub opens-string : k .value ≡ 2 → {d : Cursor} → Ensured s (stringForm ∷ []) k d (str s (d .start) (d .value)) → Opens s depth c (head 2 (d .value) (d .start) d)
     opens-string e {d} r =
-        plain 2 (d .value) (d .start) (r .0) refl (unfold content in rw e) (unfold headValues in rw e) (r .2) (omega arith) (r .1) (λ g. unfold partFits in r .3 .so g)
+        plain 2 (d .value) (d .start) (r .0) refl (unfold content in rw e) (unfold headValues in rw e) (r .2) (omega arith) (r .1)
+        (λ g. unfold partFits in r .3 .so g) (record { are = λ z. never (sym z) })
 
     pub opens-ids : k .value ≡ 8 → {d : Cursor} → Ensured s (idCount ∷ []) k d (idList s (d .start) (d .value)) → Opens s depth c (head 8 (d .value) (d .start) d)
     opens-ids e {d} r =
-        plain 8 (d .value) (d .start) (r .0) refl (unfold content in rw e) (unfold headValues in rw e) (r .2) (omega arith) (r .1) (λ g. unfold partFits in r .3 .so g)
+        plain 8 (d .value) (d .start) (r .0) refl (unfold content in rw e) (unfold headValues in rw e) (r .2) (omega arith) (r .1)
+        (λ g. unfold partFits in r .3 .so g) (record { are = λ z. never (sym z) })
 
     pub opens-integer : k .value ≡ 7 → {d : Cursor} → (d ≡ component s integer k) × (d .value < 128) → Opens s depth c (head 7 (d .value) 0 d)
     opens-integer e {d} y =
-        plain 7 (d .value) 0 (integer-reads s k (y .0)) refl (unfold content in rw e) (unfold headValues in rw e) (integer-room s k (y .0)) (omega arith) (y .1) (λ g. unfold partFits in refl)
+        plain 7 (d .value) 0 (integer-reads s k (y .0)) refl (unfold content in rw e) (unfold headValues in rw e) (integer-room s k (y .0)) (omega arith) (y .1)
+        (λ g. unfold partFits in refl) zero-tidy
 
     -- an attribute list
     module _ (e : k .value ≡ 9) {d : Cursor} (y : d ≡ component s (rowCount (suc depth)) k) (low : d .value < 128) where
@@ -181,4 +189,5 @@ module _ (s : List ℕ) (depth : ℕ) (c : Cursor) {k : Cursor} (x : k ≡ compo
             small = (omega arith, low);
             clean = λ g. read .clean;
             parts = λ g. unfold partFits in refl;
+            tidy = zero-tidy;
           }

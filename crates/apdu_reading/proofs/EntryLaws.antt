@@ -131,6 +131,7 @@ module _ (s : List ℕ) (c : Cursor) {o : Cursor} (e : o ≡ component s entry c
           counts = d;
           eid = record { are = λ z. (m .absent z .0, tt) };
           parameter = record { are = λ z. let a = q .absent z in (a .0, (a .1, (a .2, (d ∙ rw (a .0), tt)))) };
+          tidy = q .tidy;
         }
 
 -- ---- an entry with its rows
@@ -216,6 +217,7 @@ module _ (s : List ℕ) (r : Rows) (o : Open r) {h : EntryHead} (p : EntryOpens 
           tidy = λ g. (
             p .eid,
             record { are = λ z. let a = p .parameter .are z in (a .0, (a .1 .0, (a .1 .1 .0, (no-new z g, tt)))) },
+            p .tidy,
           );
         }
 

@@ -7,7 +7,7 @@ use mathlib.Core.Bool.{Bool, true, false}
 use native.Mathlib.Numerals.{add-one}
 use native.Mathlib.Omega.{arith}
 use lib.ListN.{length, take, set, length-set}
-use lib.Seq.{take-suc-set, take-set-le, getD-set-other, drop-append-le, length-take-le}
+use lib.Seq.{take-suc-set, take-set-le, getD-set-same, getD-set-other, drop-append-le, length-take-le}
 use lib.Dec.{ltb, eqb}
 use borrow.Author.Tests.{eq-eqb, ne-eqb, le-ltb, ltb-true, ltb-false, eqb-true, eqb-false}
 use Rattle.refusals.specs.Check.{pick}
@@ -102,7 +102,14 @@ module _ (s : List ℕ) (c₀ : Cursor) (o₀ : Due) (k : ℕ) (rows₀ : List R
             ∙ closes-more (total o) (r .row) rest (total (r .due)) (λ y. omega arith) (q .counts);
         more = let a = p .more in omega arith;
         kept = take-set-le k rows used (r .row) (p .more) ∙ p .kept;
-        rest = record { rest = λ j w. getD-set-other rows used j (r .row) emptyRow (λ y. omega arith) ∙ p .rest .rest j (omega arith) };
+        rest =
+            record {
+              each = λ j.
+                  by-cases (eqb j used)
+                  (λ y. let i : j ≡ used = eqb-true _ _ y in rw (i, getD-set-same rows used (r .row) emptyRow (omega arith)) (q .tidy))
+                  (λ y. rw (getD-set-other rows used j (r .row) emptyRow (eqb-false _ _ y)) (p .rest .each j));
+              rest = λ j w. getD-set-other rows used j (r .row) emptyRow (λ y. omega arith) ∙ p .rest .rest j (omega arith);
+            };
         long = length-set rows used (r .row) ∙ long;
       }
 

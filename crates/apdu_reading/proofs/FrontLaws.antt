@@ -25,13 +25,14 @@ use Rattle.apdu_reading.specs.Messages.{MessageRead}
 use Rattle.apdu_reading.specs.Answers.{told, outcomeOf, tidyBy, Tidy, soundBy, SoundRecord, refusal, first, endedBy, Answered}
 use Rattle.apdu_reading.proofs.Pieces.{sees}
 use Rattle.apdu_reading.proofs.Chains.{itself, enter}
-use Rattle.apdu_reading.proofs.ChoiceLaws.{no-entries-tidy, no-rows-tidy}
+use Rattle.apdu_reading.proofs.Boxes.{unused}
+use Rattle.apdu_reading.proofs.ChoiceLaws.{no-entries-tidy}
 
 -- ---- refusals
 
 refusal-tidy : (k p : ℕ) → Tidy (refusal k p)
 unfolding refusal tidyBy
-refusal-tidy k p = record { is = (refl, no-entries-tidy refl, no-rows-tidy refl) }
+refusal-tidy k p = record { is = (refl, no-entries-tidy refl, unused) }
 
 refusal-sound : (s : List ℕ) (k p : ℕ) → SoundRecord s (refusal k p)
 unfolding refusal soundBy

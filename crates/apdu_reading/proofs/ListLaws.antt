@@ -14,14 +14,14 @@ use Rattle.apdu_format.specs.Rules.{when, times}
 use Rattle.apdu.specs.declared.lists.Row.{Row}
 use Rattle.apdu.specs.declared.lists.Entry.{Entry}
 use Rattle.apdu.specs.Values.{num, if, entriesValues, rowsOf, listValues, emptyRow, emptyEntry}
-use Rattle.apdu.proofs.Laws.{own-sound, rows-of-append}
+use Rattle.apdu.proofs.Laws.{zero-tidy, own-sound, rows-of-append}
 use Rattle.apdu_reading.specs.declared.cursor.Cursor.{Cursor}
 use Rattle.apdu_reading.specs.Cursor.{Reads}
 use Rattle.apdu_reading.specs.Lists.{between}
 use Rattle.apdu_reading.specs.Applications.{CountMaybe, ListsWhole}
 use Rattle.apdu_reading.proofs.Stores.{Applications, counted, StoreReady, Stored, Listed, Both, Upto}
 use Rattle.apdu_reading.proofs.Chains.{valued, then, clean}
-use Rattle.apdu_reading.proofs.Boxes.{and-then, found-nothing, if-join, empty}
+use Rattle.apdu_reading.proofs.Boxes.{and-then, found-nothing, if-join, unused}
 
 -- ---- an application list
 
@@ -63,10 +63,10 @@ pub nothing-stored : (c : Cursor) {rows : List Row} {es : List Entry} → rows �
 nothing-stored c e f r =
     rw (e, f)
     (record {
-      free = record { sum = λ z. omega arith; rest = record { rest = λ j w. empty 32 j }; long = refl; few = omega arith };
+      free = record { sum = λ z. omega arith; rest = unused; long = refl; few = omega arith };
       rest = record { rest = λ j w. empty-entry 32 j };
       long = refl;
-      each = λ z j. rw (empty-entry 32 j) (record { are = λ q. (refl, tt) }, record { are = λ q. (refl, (refl, (refl, (refl, tt)))) });
+      each = λ z j. rw (empty-entry 32 j) (zero-tidy, record { are = λ q. (refl, (refl, (refl, (refl, tt)))) }, zero-tidy);
     })
 
 -- ---- what is stored is what the record's values say

@@ -185,7 +185,7 @@ module _ (s : List ℕ) (c : Cursor) (h : Chosen s c) where
                   lead-in s c b 1 (bitOf x ∷ bitOf y ∷ bitOf z ∷ w ∷ []) (lead-four s c b 1 refl l)
                   (saw-four s c b 1 (bitOf x) (bitOf y) (bitOf z) w refl fx fy fz (narrow s 7 1 (omega arith) fw))
                   (rw (set-bit x, set-bit y, set-bit z) (then (integer-reads s p (a .0)) (then (d .reads) (then (k .reads) (then (m .reads) (nothing s (itself r)))))));
-              fine = λ v. ((absent-value d, absent-box k (clean (m .reads) v), absent-value m), k .kept .rest);
+              fine = λ v. ((absent-value d, absent-box k (clean (m .reads) v), absent-value m, k .tidy), k .kept .rest);
               right = λ v. sound-if y (k .sound (clean (m .reads) v));
             }
 
@@ -305,7 +305,7 @@ module _ (s : List ℕ) (c : Cursor) (h : Chosen s c) where
                 lead-in s c b 0 (bitOf x ∷ bitOf y ∷ bitOf z ∷ bitOf w ∷ []) (lead-four s c b 0 refl l) (saw-four s c b 0 (bitOf x) (bitOf y) (bitOf z) (bitOf w) refl fx fy fz fw)
                 (rw (set-bit x, set-bit y, set-bit z)
                 (then (integer-reads s p (a .0)) (then (integer-reads s eid (i .0)) (then (d .0 .reads) (then (k .reads) (then (m .reads) (nothing s (itself r))))))));
-            fine = λ v. ((absent-part (d .0), absent-box k (clean (m .reads) v), absent-value m), k .kept .rest);
+            fine = λ v. ((absent-part (d .0), absent-box k (clean (m .reads) v), absent-value m, k .tidy), k .kept .rest);
             right = λ v. let u = clean (m .reads) v in and-true (d .1 .so (clean (k .reads) u)) (sound-if y (k .sound u));
           }
 

@@ -54,4 +54,5 @@ next s c o some {d} x {l} a {h} p {n} e {due} f =
       sums = λ z. let g = p .room z in let r = integer-room s c (x .0) in omega arith;
       counts = rw e at t;
       parts = p .parts;
+      tidy = p .tidy;
     }

@@ -11,7 +11,7 @@ use Rattle.apdu_format.specs.Rules.{when, times}
 use Rattle.apdu.specs.declared.lists.Row.{Row}
 use Rattle.apdu.specs.declared.lists.Entry.{Entry}
 use Rattle.apdu.specs.Values.{bitOf, num-if, if, entryValues, entryRows, rowsOf, listValues}
-use Rattle.apdu.specs.Tidy.{Absent, RowsTidy, entryTidy, ListsTidy}
+use Rattle.apdu.specs.Tidy.{Absent, startTidy, RowsTidy, entryTidy, ListsTidy}
 use Rattle.apdu.specs.Sound.{partFits, nested, entrySound, entriesSound}
 use Rattle.apdu_reading.specs.declared.cursor.Cursor.{Cursor}
 use Rattle.apdu_reading.specs.declared.rows.Rows.{Rows}
@@ -33,6 +33,7 @@ pub record EntryOpens (s : List ℕ) (c : Cursor) (r : EntryHead) : Type 0 where
   pub counts : r .due ≡ nested (r .entry .kind) (r .entry .n)
   pub eid : Absent (r .entry .«has_eid») (r .entry .eid ∷ [])
   pub parameter : Absent (r .entry .«has_parameter») (r .entry .kind ∷ r .entry .n ∷ r .entry .start ∷ r .due ∷ [])
+  pub tidy : startTidy (r .entry .kind) (r .entry .start)
 
 -- rows behind which more may be stored
 pub record Open (r : Rows) : Type 0 where

@@ -9,6 +9,7 @@ use Rattle.apdu_format.specs.Component.{Component, rowCount, container}
 use Rattle.apdu_format.specs.Rules.{when, times}
 use Rattle.apdu_format.specs.Reading.{Value}
 use Rattle.apdu.specs.Values.{num-if, if, headValues}
+use Rattle.apdu.specs.Tidy.{startTidy}
 use Rattle.apdu.specs.Sound.{nested, partFits}
 use Rattle.apdu_reading.specs.declared.cursor.Cursor.{Cursor}
 use Rattle.apdu_reading.specs.declared.container.Head.{Head}
@@ -31,6 +32,7 @@ pub record HeadMaybe (s : List ℕ) (p : Bool) (c : Cursor) (r : Head) : Type 0 
   pub clean : r .cursor .fault ≡ 0 → c .fault ≡ 0
   pub parts : r .cursor .fault ≡ 0 → partFits (length s) (r .kind) (r .n) (r .start) ≡ true
   pub absent : p ≡ false → (r .kind ≡ 0) × (r .n ≡ 0) × (r .start ≡ 0)
+  pub tidy : startTidy (r .kind) (r .start)
 
 -- an attribute list up to its rows
 pub record AttributesMaybe (s : List ℕ) (p : Bool) (c r : Cursor) : Type 0 where

@@ -10,6 +10,7 @@ use Rattle.apdu_format.specs.Component.{container}
 use Rattle.apdu_format.specs.Rules.{times}
 use Rattle.apdu_format.specs.Reading.{Value, runs}
 use Rattle.apdu.specs.Values.{headValues, rowValues}
+use Rattle.apdu.specs.Tidy.{startTidy, rowTidy}
 use Rattle.apdu.specs.Sound.{partFits, nested}
 use Rattle.apdu.specs.RowCounters.{row, total, dueList}
 use Rattle.apdu_reading.specs.declared.cursor.Cursor.{Cursor}
@@ -27,6 +28,7 @@ pub record Opens (s : List ℕ) (depth : ℕ) (c : Cursor) (r : Head) : Type 0 w
   pub small : (r .kind < 128) × (r .n < 128)
   pub clean : r .cursor .fault ≡ 0 → c .fault ≡ 0
   pub parts : r .cursor .fault ≡ 0 → partFits (length s) (r .kind) (r .n) (r .start) ≡ true
+  pub tidy : startTidy (r .kind) (r .start)
 
 -- one row is read
 pub record Next (s : List ℕ) (c : Cursor) (o : Due) (r : RowRead) : Type 0 where
@@ -34,3 +36,4 @@ pub record Next (s : List ℕ) (c : Cursor) (o : Due) (r : RowRead) : Type 0 whe
   pub sums : r .cursor .fault ≡ 0 → total (r .due) + r .cursor .room + 1 ≡ total o + c .room
   pub counts : total (r .due) + 1 ≡ total o + nested (r .row .kind) (r .row .n)
   pub parts : r .cursor .fault ≡ 0 → partFits (length s) (r .row .kind) (r .row .n) (r .row .start) ≡ true
+  pub tidy : rowTidy (r .row)
