@@ -26,10 +26,9 @@ pub(crate) fn holds_pair(slot: Slot, lid: u32, number: u8) -> bool
 pub fn find(table: Table, lid: u32, number: u8) -> usize
     ensures { λ r. ⌜ r ≡ indexOf lid number (table .slots) ⌝ }
 {
-    let slots = table.slots;
     let mut i: usize = 0;
     while i < crate::SLOTS {
-        let slot = slots[i];
+        let slot = table.slots[i];
         if holds_pair(slot, lid, number) {
             return i;
         }
@@ -42,9 +41,8 @@ pub fn find(table: Table, lid: u32, number: u8) -> usize
 pub fn slot_at(table: Table, i: usize) -> Slot
     ensures { λ r. ⌜ r ≡ getD (table .slots) i free ⌝ }
 {
-    let slots = table.slots;
     if i < crate::SLOTS {
-        return slots[i];
+        return table.slots[i];
     }
     free_slot()
 }

@@ -11,10 +11,10 @@ use Rattle.slots.proofs.lookup.find.Statement.{statement}
 use Rattle.slots.proofs.lookup.find.Tie as tie
 
 abbrev Inv-loop : tie.InvT-loop
-Inv-loop lid number slots i₀ i = (i ≤ 8) × (indexOf lid number slots ≡ i + indexOf lid number (drop i slots))
+Inv-loop lid number table i₀ i = (i ≤ 8) × (indexOf lid number (table .slots) ≡ i + indexOf lid number (drop i (table .slots)))
 
 abbrev μ-loop : tie.MeasureT-loop
-μ-loop lid number slots i₀ i = 8 - i
+μ-loop lid number table i₀ i = 8 - i
 
 loop-holds : tie.Need-loop-holds Inv-loop μ-loop
 loop-holds c = (search needs, omega arith)
@@ -22,16 +22,16 @@ loop-holds c = (search needs, omega arith)
 mul-slot : tie.Need-mul-slot Inv-loop μ-loop
 mul-slot c = search needs
 
-array-copy-out-slot : tie.Need-array-copy-out-slot Inv-loop μ-loop
-array-copy-out-slot c = search needs
+element-copy-out-slot : tie.Need-element-copy-out-slot Inv-loop μ-loop
+element-copy-out-slot c = search needs
 
 holds-pair-requires : tie.Need-holds-pair-requires Inv-loop μ-loop
 holds-pair-requires c κs = search needs
 
 returns : tie.Need-returns Inv-loop μ-loop
 returns c =
-    let a = c .before .before .before .before .before .before .args in
-    let slots = a .table .slots in
+    let a = c .before .before .before .before .before .args in
+    let slots = a .t1 .slots in
     let i = c .before .before .before .before .loop .i in
     let n : length slots ≡ 8 = search (needs, long) in
     let same = sym (c .before .holds-pair .ensures) ∙ c .if1 .taken in
@@ -45,8 +45,8 @@ loop-less c = omega arith
 
 loop-again : tie.Need-loop-again Inv-loop μ-loop
 loop-again c =
-    let a = c .before .before .before .before .before .before .args in
-    let slots = a .table .slots in
+    let a = c .before .before .before .before .before .args in
+    let slots = a .t1 .slots in
     let i = c .before .before .before .before .loop .i in
     let n : length slots ≡ 8 = search (needs, long) in
     let same = sym (c .before .holds-pair .ensures) ∙ c .if1 .left in
@@ -55,8 +55,8 @@ loop-again c =
 returns-2 : tie.Need-returns-2 Inv-loop μ-loop
 unfolding indexOf
 returns-2 c =
-    let a = c .before .before .before .args in
-    let slots = a .table .slots in
+    let a = c .before .before .args in
+    let slots = a .t1 .slots in
     let n : length slots ≡ 8 = search (needs, long) in
     let e = ap (indexOf (a .lid) (a .number)) (drop-of-length-le slots {i = c .before .loop .i} (omega arith)) in
     omega (arith, e)
@@ -69,7 +69,7 @@ find-spec =
     μ-loop
     loop-holds
     mul-slot
-    array-copy-out-slot
+    element-copy-out-slot
     holds-pair-requires
     returns
     add-i
