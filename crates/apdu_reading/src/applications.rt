@@ -13,7 +13,7 @@ use crate::rows::Rows;
 use crate::rows::fill;
 use apdu::Due;
 use apdu::Entry;
-use apdu::Row;
+use apdu::Lists;
 use apdu::announces;
 use apdu::no_entries;
 use apdu::no_rows;
@@ -102,13 +102,12 @@ pub(crate) fn count_if(s: &[u8], p: bool, c: Cursor) -> Cursor
     marked(c, 0, 0)
 }
 
-// The application lists of a message: how many entries each has, the entries one behind the other, and their rows.
+// The application lists of a message: how many entries each has, and the entries one behind the other with their rows.
 pub struct ListsRead {
     pub cursor: Cursor,
     pub mandatory: u64,
     pub others: u64,
-    pub entries: [Entry; 32],
-    pub rows: [Row; 32],
+    pub lists: Lists,
 }
 
 // A list, and behind it a second one if it is there. The entries of both are read in one place, where the calls become part of the loop.
@@ -118,8 +117,9 @@ pub(crate) fn application_lists(s: &[u8], second: bool, c: Cursor) -> ListsRead
 {
     let mut cursor = c;
     let mut used: u64 = 0;
-    let mut rows = no_rows();
-    let mut entries = no_entries();
+    let entries = no_entries();
+    let rows = no_rows();
+    let mut lists = Lists { entries, rows };
     let mut mandatory: u64 = 0;
     let mut others: u64 = 0;
     let mut round: u64 = 0;
@@ -136,15 +136,16 @@ pub(crate) fn application_lists(s: &[u8], second: bool, c: Cursor) -> ListsRead
             if h.due == 0 {
                 let entry = h.entry;
                 cursor = h.cursor;
-                entries[place] = entry;
+                lists.entries[place] = entry;
             } else {
+                let rows = lists.rows;
                 let t = with_rows(s, h, Rows { cursor, used, rows });
                 let entry = t.entry;
-                let more = t.rows;
-                cursor = more.cursor;
-                used = more.used;
-                rows = more.rows;
-                entries[place] = entry;
+                let stored = t.rows.rows;
+                cursor = t.rows.cursor;
+                used = t.rows.used;
+                lists.rows = stored;
+                lists.entries[place] = entry;
             }
         }
     }
@@ -152,7 +153,6 @@ pub(crate) fn application_lists(s: &[u8], second: bool, c: Cursor) -> ListsRead
         cursor,
         mandatory,
         others,
-        entries,
-        rows,
+        lists,
     }
 }
