@@ -110,7 +110,8 @@ pub struct ListsRead {
     pub lists: Lists,
 }
 
-// A list, and behind it a second one if it is there. The entries of both are read in one place, where the calls become part of the loop.
+// A list, and behind it a second one if it is there. In a round `others` counts the list that is read, `mandatory` the entries before it, which are 0 for the
+// first. One loop reads the entries of both, so that what it calls once becomes part of it.
 pub(crate) fn application_lists(s: &[u8], second: bool, c: Cursor) -> ListsRead
     requires { ⌜ (length (now s) ≤ 512) × (c .room ≡ 32) ⌝ }
     ensures { λ r. ⌜ ListsWhole (now (s .entry)) second c r ⌝ }
