@@ -234,12 +234,12 @@ module _ (s : List ℕ) (f : LinkFront) (opened : FrontRead s f) (m o : ℕ) (c 
   unfolding valuesOf vstValues messageTidy sound vstSound
   vst-end n {d} q =
       record {
-        whole = λ {es} {rs} w.
+        whole = λ {l} w.
             let x = opened .only n in
             let z : m + o ≡ m = omega (arith, w .absent x) in
             record {
               reads = opened .vst n (rw x at (w .reads (then (q .reads) (nothing s (itself (d .cursor))))));
               tidy = λ g. (q .absent, rw z at (w .tidy (clean (q .reads) g)));
-              sound = λ g. own-sound (length s) (take m es) rs ∙ w .first (clean (q .reads) g);
+              sound = λ g. own-sound (length s) (take m (l .entries)) (l .rows) ∙ w .first (clean (q .reads) g);
             };
       }

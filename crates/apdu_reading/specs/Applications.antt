@@ -66,22 +66,22 @@ pub record CountMaybe (s : List ℕ) (p : Bool) (c r : Cursor) : Type 0 where
 
 -- the entries of the first list, those of the second, and the rows of the second
 abbrev pub firstEntries : ListsRead → List Entry
-firstEntries r = take (r .mandatory) (r .entries)
+firstEntries r = take (r .mandatory) (r .lists .entries)
 
 abbrev pub otherEntries : ListsRead → List Entry
-otherEntries r = take (r .others) (drop (r .mandatory) (r .entries))
+otherEntries r = take (r .others) (drop (r .mandatory) (r .lists .entries))
 
 abbrev pub otherRows : ListsRead → List Row
-otherRows r = drop (rowsOf (firstEntries r)) (r .rows)
+otherRows r = drop (rowsOf (firstEntries r)) (r .lists .rows)
 
 -- the application lists of a message, of which the second is there if p says so; with whatever is read behind them
 pub record ListsWhole (s : List ℕ) (p : Bool) (c : Cursor) (r : ListsRead) : Type 0 where
   pub reads : {is : List Component} {q : Cursor} {vs : List Value} → Reads s is (r .cursor) q vs
       → Reads s (entryCount ∷ (when p (entryCount ∷ []) ++ is)) c q
-      (listValues s (r .mandatory) (firstEntries r) (r .rows) ++ (if p (listValues s (r .others) (otherEntries r) (otherRows r)) ++ vs))
-  pub first : r .cursor .fault ≡ 0 → entriesSound (length s) (firstEntries r) (take (rowsOf (firstEntries r)) (r .rows)) ≡ true
+      (listValues s (r .mandatory) (firstEntries r) (r .lists .rows) ++ (if p (listValues s (r .others) (otherEntries r) (otherRows r)) ++ vs))
+  pub first : r .cursor .fault ≡ 0 → entriesSound (length s) (firstEntries r) (take (rowsOf (firstEntries r)) (r .lists .rows)) ≡ true
   pub second : r .cursor .fault ≡ 0 → entriesSound (length s) (otherEntries r) (otherRows r) ≡ true
-  pub tidy : r .cursor .fault ≡ 0 → ListsTidy (r .mandatory + r .others) (r .entries) (r .rows)
+  pub tidy : r .cursor .fault ≡ 0 → ListsTidy (r .mandatory + r .others) (r .lists .entries) (r .lists .rows)
   pub absent : p ≡ false → r .others ≡ 0
 
 -- the configuration of a VST

@@ -8,8 +8,6 @@ use lib.ListN.{length, replicate}
 use Rattle.apdu_format.specs.Component.{choice, integer, entryCount, idCount, class}
 use Rattle.apdu_format.specs.Rules.{when}
 use Rattle.apdu_format.specs.Reading.{Value, fields}
-use Rattle.apdu.specs.declared.lists.Row.{Row}
-use Rattle.apdu.specs.declared.lists.Entry.{Entry}
 use Rattle.apdu.specs.declared.lists.Lists.{Lists}
 use Rattle.apdu.specs.declared.due.Due.{Due}
 use Rattle.apdu.specs.declared.records.Request.{Request}
@@ -57,9 +55,8 @@ pub record FrontRead (s : List ℕ) (f : LinkFront) : Type 0 where
 
 -- whatever the entries and their rows are, with them the message is read
 pub record EndRead (s : List ℕ) (f : LinkFront) (mandatory others : ℕ) (c : Cursor) (r : LinkEnd) : Type 0 where
-  pub whole : {es : List Entry} {rs : List Row}
-      → ListsWhole s (f .«has_others») (f .cursor) (record { cursor = c; mandatory = mandatory; others = others; entries = es; rows = rs })
-      → MessageRead s (r .cursor) (r .message) (record { entries = es; rows = rs })
+  pub whole : {l : Lists} → ListsWhole s (f .«has_others») (f .cursor) (record { cursor = c; mandatory = mandatory; others = others; lists = l })
+      → MessageRead s (r .cursor) (r .message) l
 
 -- ---- services: a message up to its rows, and the message once they and the number behind them are read
 

@@ -13,7 +13,7 @@ use crate::rows::Rows;
 use crate::rows::fill;
 use apdu::Due;
 use apdu::Entry;
-use apdu::Row;
+use apdu::Lists;
 use apdu::announces;
 use apdu::no_entries;
 use apdu::no_rows;
@@ -102,24 +102,25 @@ pub(crate) fn count_if(s: &[u8], p: bool, c: Cursor) -> Cursor
     marked(c, 0, 0)
 }
 
-// The application lists of a message: how many entries each has, the entries one behind the other, and their rows.
+// The application lists of a message: how many entries each has, and the entries one behind the other with their rows.
 pub struct ListsRead {
     pub cursor: Cursor,
     pub mandatory: u64,
     pub others: u64,
-    pub entries: [Entry; 32],
-    pub rows: [Row; 32],
+    pub lists: Lists,
 }
 
-// A list, and behind it a second one if it is there. The entries of both are read in one place, where the calls become part of the loop.
+// A list, and behind it a second one if it is there. In a round `others` counts the list that is read, `mandatory` the entries before it, which are 0 for the
+// first. One loop reads the entries of both, so that what it calls once becomes part of it.
 pub(crate) fn application_lists(s: &[u8], second: bool, c: Cursor) -> ListsRead
     requires { ⌜ (length (now s) ≤ 512) × (c .room ≡ 32) ⌝ }
     ensures { λ r. ⌜ ListsWhole (now (s .entry)) second c r ⌝ }
 {
     let mut cursor = c;
     let mut used: u64 = 0;
-    let mut rows = no_rows();
-    let mut entries = no_entries();
+    let entries = no_entries();
+    let rows = no_rows();
+    let mut lists = Lists { entries, rows };
     let mut mandatory: u64 = 0;
     let mut others: u64 = 0;
     let mut round: u64 = 0;
@@ -136,15 +137,16 @@ pub(crate) fn application_lists(s: &[u8], second: bool, c: Cursor) -> ListsRead
             if h.due == 0 {
                 let entry = h.entry;
                 cursor = h.cursor;
-                entries[place] = entry;
+                lists.entries[place] = entry;
             } else {
+                let rows = lists.rows;
                 let t = with_rows(s, h, Rows { cursor, used, rows });
                 let entry = t.entry;
-                let more = t.rows;
-                cursor = more.cursor;
-                used = more.used;
-                rows = more.rows;
-                entries[place] = entry;
+                let stored = t.rows.rows;
+                cursor = t.rows.cursor;
+                used = t.rows.used;
+                lists.rows = stored;
+                lists.entries[place] = entry;
             }
         }
     }
@@ -152,7 +154,6 @@ pub(crate) fn application_lists(s: &[u8], second: bool, c: Cursor) -> ListsRead
         cursor,
         mandatory,
         others,
-        entries,
-        rows,
+        lists,
     }
 }

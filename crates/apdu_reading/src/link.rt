@@ -15,7 +15,6 @@ use crate::front::ended;
 use crate::front::refused;
 use crate::services::flag;
 use apdu::Bst;
-use apdu::Lists;
 use apdu::Message;
 use apdu::Vst;
 
@@ -155,18 +154,17 @@ pub(crate) fn link(s: &[u8], c: Cursor) -> Reading
     ensures { λ r. ⌜ Answered (now (s .entry)) r ⌝ }
 {
     let f = link_front(s, c);
-    let lists = application_lists(s, f.has_others, f.cursor);
-    let e = link_end(s, f, lists.mandatory, lists.others, lists.cursor);
+    let a = application_lists(s, f.has_others, f.cursor);
+    let e = link_end(s, f, a.mandatory, a.others, a.cursor);
     let end = ended(s, e.cursor);
     if end.fault != 0 {
         return refused(end.fault, end.position);
     }
     let message = e.message;
-    let entries = lists.entries;
-    let rows = lists.rows;
+    let lists = a.lists;
     Reading {
         answer: Answer::Message(message),
         end: end.at,
-        lists: Lists { entries, rows },
+        lists,
     }
 }

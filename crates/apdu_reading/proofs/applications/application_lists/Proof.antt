@@ -10,25 +10,25 @@ use Rattle.apdu_reading.proofs.applications.application_lists.Statement
 use Rattle.apdu_reading.proofs.applications.application_lists.Tie as tie
 
 abbrev Inv-loop2 : tie.InvT-loop2
-Inv-loop2 s second cursor₀ used₀ rows₀ entries₀ mandatory others round i₀ cursor used rows entries i = Stored s mandatory (record { rows = record { cursor = cursor₀; used = used₀; rows = rows₀ }; entries = entries₀ }) i (record { rows = record { cursor = cursor; used = used; rows = rows }; entries = entries }) × (i ≤ others) × (mandatory + others ≤ 32)
+Inv-loop2 s second cursor₀ used₀ lists₀ mandatory others round i₀ cursor used lists i = Stored s mandatory (record { rows = record { cursor = cursor₀; used = used₀; rows = lists₀ .rows }; entries = lists₀ .entries }) i (record { rows = record { cursor = cursor; used = used; rows = lists .rows }; entries = lists .entries }) × (i ≤ others) × (mandatory + others ≤ 32)
 
 abbrev μ-loop2 : tie.MeasureT-loop2
-μ-loop2 s second cursor₀ used₀ rows₀ entries₀ mandatory others round i₀ cursor used rows entries i = others - i
+μ-loop2 s second cursor₀ used₀ lists₀ mandatory others round i₀ cursor used lists i = others - i
 
 abbrev Inv-loop : tie.InvT-loop
-Inv-loop s second cursor₀ used₀ rows₀ entries₀ mandatory₀ others₀ round₀ cursor used rows entries mandatory others round = Upto s second (record { rows = record { cursor = cursor₀; used = used₀; rows = rows₀ }; entries = entries₀ }) round mandatory others (record { rows = record { cursor = cursor; used = used; rows = rows }; entries = entries })
+Inv-loop s second cursor₀ used₀ lists₀ mandatory₀ others₀ round₀ cursor used lists mandatory others round = Upto s second (record { rows = record { cursor = cursor₀; used = used₀; rows = lists₀ .rows }; entries = lists₀ .entries }) round mandatory others (record { rows = record { cursor = cursor; used = used; rows = lists .rows }; entries = lists .entries })
 
 abbrev μ-loop : tie.MeasureT-loop
-μ-loop s second cursor₀ used₀ rows₀ entries₀ mandatory₀ others₀ round₀ cursor used rows entries mandatory others round = 2 - round
-
-no-rows-requires : tie.Need-no-rows-requires Inv-loop2 μ-loop2 Inv-loop μ-loop
-no-rows-requires c κs = tt
+μ-loop s second cursor₀ used₀ lists₀ mandatory₀ others₀ round₀ cursor used lists mandatory others round = 2 - round
 
 no-entries-requires : tie.Need-no-entries-requires Inv-loop2 μ-loop2 Inv-loop μ-loop
 no-entries-requires c κs = tt
 
+no-rows-requires : tie.Need-no-rows-requires Inv-loop2 μ-loop2 Inv-loop μ-loop
+no-rows-requires c κs = tt
+
 loop-holds : tie.Need-loop-holds Inv-loop2 μ-loop2 Inv-loop μ-loop
-loop-holds c = none-read _ _ _ (nothing-stored _ (c .before .no-rows .ensures) (c .no-entries .ensures) (c .before .before .before .pre .1))
+loop-holds c = none-read _ _ _ (nothing-stored _ (c .no-rows .ensures) (c .before .no-entries .ensures) (c .before .before .before .pre .1))
 
 count-if-requires : tie.Need-count-if-requires Inv-loop2 μ-loop2 Inv-loop μ-loop
 count-if-requires c κs = c .before .before .before .before .before .pre .0
@@ -57,11 +57,11 @@ add-place c = omega (arith, c .before .loop2-test .taken, c .before .before .loo
 add-i : tie.Need-add-i Inv-loop2 μ-loop2 Inv-loop μ-loop
 add-i c = omega (arith, c .before .loop2-test .taken, c .before .before .loop2 .inv .2)
 
-mul-entries : tie.Need-mul-entries Inv-loop2 μ-loop2 Inv-loop μ-loop
-mul-entries c = omega (arith, c .before .before .before .before .before .loop2-test .taken, c .before .before .before .before .before .before .loop2 .inv .2)
+mul-entry : tie.Need-mul-entry Inv-loop2 μ-loop2 Inv-loop μ-loop
+mul-entry c = omega (arith, c .before .before .before .before .before .loop2-test .taken, c .before .before .before .before .before .before .loop2 .inv .2)
 
-array-set-from-entries : tie.Need-array-set-from-entries Inv-loop2 μ-loop2 Inv-loop μ-loop
-array-set-from-entries c = omega (arith, c .before .before .before .before .before .loop2-test .taken, c .before .before .before .before .before .before .loop2 .inv .2, c .before .before .before .before .before .before .loop2 .inv .0 .ready .long)
+element-set-from-entry : tie.Need-element-set-from-entry Inv-loop2 μ-loop2 Inv-loop μ-loop
+element-set-from-entry c = omega (arith, c .before .before .before .before .before .loop2-test .taken, c .before .before .before .before .before .before .loop2 .inv .2, c .before .before .before .before .before .before .loop2 .inv .0 .ready .long)
 
 loop2-less : tie.Need-loop2-less Inv-loop2 μ-loop2 Inv-loop μ-loop
 loop2-less c = omega (arith, c .before .before .before .before .before .loop2-test .taken)
@@ -70,22 +70,22 @@ loop2-again : tie.Need-loop2-again Inv-loop2 μ-loop2 Inv-loop μ-loop
 loop2-again c = (stored-more _ _ _ _ (c .before .before .before .before .before .before .loop2 .inv .0) (entry-alone _ _ (c .before .before .before .before .before .before .loop2 .inv .0 .ready .free) (c .before .before .before .before .entry-head .ensures) (c .before .before .if1 .taken)) (omega (arith, c .before .before .before .before .before .loop2-test .taken, c .before .before .before .before .before .before .loop2 .inv .2)), omega (arith, c .before .before .before .before .before .loop2-test .taken), c .before .before .before .before .before .before .loop2 .inv .2)
 
 with-rows-requires : tie.Need-with-rows-requires Inv-loop2 μ-loop2 Inv-loop μ-loop
-with-rows-requires c κs = (c .before .before .before .before .before .before .before .before .before .before .before .pre .0, c .before .before .before .before .loop2 .inv .0 .ready .free, c .before .before .entry-head .ensures, omega (arith, c .if1 .left))
+with-rows-requires c κs = (c .before .before .before .before .before .before .before .before .before .before .before .before .pre .0, c .before .before .before .before .before .loop2 .inv .0 .ready .free, c .before .before .before .entry-head .ensures, omega (arith, c .before .if1 .left))
 
-mul-entries-2 : tie.Need-mul-entries-2 Inv-loop2 μ-loop2 Inv-loop μ-loop
-mul-entries-2 c = omega (arith, c .before .before .before .before .before .before .before .before .loop2-test .taken, c .before .before .before .before .before .before .before .before .before .loop2 .inv .2)
+mul-entry-2 : tie.Need-mul-entry-2 Inv-loop2 μ-loop2 Inv-loop μ-loop
+mul-entry-2 c = omega (arith, c .before .before .before .before .before .before .before .before .loop2-test .taken, c .before .before .before .before .before .before .before .before .before .loop2 .inv .2)
 
-array-set-from-entries-2 : tie.Need-array-set-from-entries-2 Inv-loop2 μ-loop2 Inv-loop μ-loop
-array-set-from-entries-2 c = omega (arith, c .before .before .before .before .before .before .before .before .loop2-test .taken, c .before .before .before .before .before .before .before .before .before .loop2 .inv .2, c .before .before .before .before .before .before .before .before .before .loop2 .inv .0 .ready .long)
+element-set-from-entry-2 : tie.Need-element-set-from-entry-2 Inv-loop2 μ-loop2 Inv-loop μ-loop
+element-set-from-entry-2 c = omega (arith, c .before .before .before .before .before .before .before .before .loop2-test .taken, c .before .before .before .before .before .before .before .before .before .loop2 .inv .2, c .before .before .before .before .before .before .before .before .before .loop2 .inv .0 .ready .long)
 
 loop2-less-2 : tie.Need-loop2-less-2 Inv-loop2 μ-loop2 Inv-loop μ-loop
 loop2-less-2 c = omega (arith, c .before .before .before .before .before .before .before .before .loop2-test .taken)
 
 loop2-again-2 : tie.Need-loop2-again-2 Inv-loop2 μ-loop2 Inv-loop μ-loop
-loop2-again-2 c = (stored-more _ _ _ _ (c .before .before .before .before .before .before .before .before .before .loop2 .inv .0) (c .before .before .before .before .with-rows .ensures) (omega (arith, c .before .before .before .before .before .before .before .before .loop2-test .taken, c .before .before .before .before .before .before .before .before .before .loop2 .inv .2)), omega (arith, c .before .before .before .before .before .before .before .before .loop2-test .taken), c .before .before .before .before .before .before .before .before .before .loop2 .inv .2)
+loop2-again-2 c = (stored-more _ _ _ _ (c .before .before .before .before .before .before .before .before .before .loop2 .inv .0) (c .before .before .before .with-rows .ensures) (omega (arith, c .before .before .before .before .before .before .before .before .loop2-test .taken, c .before .before .before .before .before .before .before .before .before .loop2 .inv .2)), omega (arith, c .before .before .before .before .before .before .before .before .loop2-test .taken), c .before .before .before .before .before .before .before .before .before .loop2 .inv .2)
 
 returns : tie.Need-returns Inv-loop2 μ-loop2 Inv-loop μ-loop
 returns c = both-whole _ _ _ (upto-both _ _ _ _ _ _ _ (c .loop-test .left) (c .before .loop .inv))
 
 pub application-lists-spec : {M : Type 1} → statement M
-application-lists-spec = tie.close (tie.spec Inv-loop2 μ-loop2 Inv-loop μ-loop no-rows-requires no-entries-requires loop-holds count-if-requires add-mandatory add-round loop2-holds loop-less loop-again entry-head-requires add-place add-i mul-entries array-set-from-entries loop2-less loop2-again with-rows-requires mul-entries-2 array-set-from-entries-2 loop2-less-2 loop2-again-2 returns)
+application-lists-spec = tie.close (tie.spec Inv-loop2 μ-loop2 Inv-loop μ-loop no-entries-requires no-rows-requires loop-holds count-if-requires add-mandatory add-round loop2-holds loop-less loop-again entry-head-requires add-place add-i mul-entry element-set-from-entry loop2-less loop2-again with-rows-requires mul-entry-2 element-set-from-entry-2 loop2-less-2 loop2-again-2 returns)

@@ -24,7 +24,7 @@ returns : tie.Need-returns
 returns c = message-refused _ (c .before .before .before .before .before .before .before .before .pre .0) _ (c .before .before .before .before .link-end .ensures .whole (c .before .before .before .before .before .application-lists .ensures)) (c .before .before .before .ended .ensures) (c .before .if1 .taken) (c .refused .ensures)
 
 returns-2 : tie.Need-returns-2
-returns-2 c = message-answered _ (c .before .before .before .before .before .before .before .before .before .pre .0) _ (c .before .before .before .before .before .link-end .ensures .whole (c .before .before .before .before .before .before .application-lists .ensures)) (c .before .before .before .before .ended .ensures) (c .before .before .if1 .left) refl refl
+returns-2 c = message-answered _ (c .before .before .before .before .before .before .before .before .pre .0) _ (c .before .before .before .before .link-end .ensures .whole (c .before .before .before .before .before .application-lists .ensures)) (c .before .before .before .ended .ensures) (c .before .if1 .left) refl refl
 
 pub link-spec : {M : Type 1} → statement M
 link-spec = tie.close (tie.spec link-front-requires application-lists-requires link-end-requires ended-requires refused-requires returns returns-2)
