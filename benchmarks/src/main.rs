@@ -17,7 +17,8 @@ use timing::Effort;
 const HEADING: &str = "Times are nanoseconds for a call, the best of ROUNDS rounds in which all contenders take their turn.
 A proved reading clears lists of its own, 1,024 octets. Plain Rust is lent its lists, 2,584 octets, and is measured with
 them left as they are, which is its own way, and with them cleared before each read, which is more than the proved reading
-clears. Outputs are lent once and cleared by nobody. A copy is one of the octets that the call reads.";
+clears. Outputs are lent once and cleared by nobody. A copy is one of the octets that the call reads. A proved writing alone
+is reading and writing again less reading, in the same rounds; plain Rust's is its writer.";
 
 fn main() {
     let quick = std::env::args().nth(1).as_deref() == Some("quick");
@@ -28,8 +29,7 @@ fn main() {
     let sizes = table::print("Reading, by size", reading::by_size(effort));
     table::print_growth("Growth of reading", &sizes);
     let rewritings = table::print("Reading and writing again, by size", reading::rewriting(effort));
-    let writings = table::writing_alone(&sizes, &rewritings);
-    let writings = table::print("Writing alone: the last table less reading", writings);
+    let writings = table::print("Writing alone", reading::writing(effort));
     table::print_growth("Growth of writing alone", &writings);
     let fragments = table::print("Fragment calls", fragments::rows(effort));
     table::print("Requests, the link and the header", calls::rows(effort));

@@ -1,4 +1,4 @@
-//! Reading, and reading and writing again.
+//! Reading, reading and writing again, and writing.
 
 use std::hint::black_box;
 
@@ -48,6 +48,23 @@ fn rewriting_row(name: &str, octets: &[u8], effort: Effort) -> Row {
     Row { name: name.into(), octets: octets.len(), proved, plain, cleared: Some(cleared), copy }
 }
 
+/// Writing alone. The archive has no call that only writes, so the proved time is that of reading and writing again less that of reading, in the same
+/// rounds; plain Rust's is that of its writer.
+fn writing_row(name: &str, octets: &[u8], effort: Effort) -> Row {
+    let mut outputs = [[0; OUTPUT_OCTETS]; 2];
+    let [first, second] = &mut outputs;
+    let mut lists = Lists::default();
+    let message = reading::read(octets, &mut lists).unwrap_or_else(|_| unreachable!("the family's messages are read"));
+    let contenders = [
+        contender(|| raw::rewrite(black_box(octets), black_box(first))),
+        contender(|| raw::check(black_box(octets))),
+        contender(|| writing::write(black_box(&message), black_box(&lists), black_box(octets), black_box(second))),
+        copy(octets),
+    ];
+    let [both, reading, plain, copy] = best(contenders, effort);
+    Row { name: name.into(), octets: octets.len(), proved: both - reading, plain, cleared: None, copy }
+}
+
 pub fn by_kind(effort: Effort) -> Vec<Row> {
     kinds().iter().map(|(name, octets)| reading_row(name, octets, effort)).collect()
 }
@@ -66,4 +83,8 @@ pub fn by_size(effort: Effort) -> Vec<Row> {
 
 pub fn rewriting(effort: Effort) -> Vec<Row> {
     families(|name, octets| rewriting_row(name, octets, effort))
+}
+
+pub fn writing(effort: Effort) -> Vec<Row> {
+    families(|name, octets| writing_row(name, octets, effort))
 }

@@ -68,17 +68,6 @@ fn print_steps(family: &[Row], who: &str, time: impl Fn(&Row) -> f64) {
     println!("| {} | {who} | {} | {:.2} |", family[0].name, steps.join(" | "), doubling(family, time));
 }
 
-/// Reading taken off reading and writing again, row by row.
-pub fn writing_alone(readings: &[Row], rewritings: &[Row]) -> Vec<Row> {
-    let less = |(reading, both): (&Row, &Row)| Row {
-        proved: both.proved - reading.proved,
-        plain: both.plain - reading.plain,
-        cleared: None,
-        ..both.clone()
-    };
-    readings.iter().zip(rewritings).map(less).collect()
-}
-
 /// The highest ratio to plain Rust in its own way, and with its lists cleared.
 pub fn print_worst(what: &str, rows: &[Row]) {
     let worst = |ratio: &dyn Fn(&Row) -> f64| {

@@ -13,7 +13,7 @@ pub struct Effort {
 impl Effort {
     pub const QUICK: Effort = Effort { rounds: 5, loop_time: Duration::from_micros(200) };
     /// Many short rounds, so that some are not disturbed on a busy machine.
-    pub const FULL: Effort = Effort { rounds: 60, loop_time: Duration::from_millis(1) };
+    pub const FULL: Effort = Effort { rounds: 200, loop_time: Duration::from_millis(1) };
 }
 
 /// Makes a call so many times.

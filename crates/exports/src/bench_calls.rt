@@ -30,7 +30,7 @@ fn join(
 ) -> Columns
     ensures { λ r. ⌜ LsduPut lid tick (now (lsdu .entry)) (now (table .entry)) (now (store .entry)) (now (out .entry)) r (now (table .exit)) (now (store .exit)) (now (out .exit)) ⌝ }
 {
-    let answer = joined(lid, tick, lsdu, table, store, out);
+    let answer = joined(store, out, lsdu, table, lid, tick);
     shown(answer, lid, lsdu, table_in(table))
 }
 

@@ -40,14 +40,15 @@ fn keep_table(accepted: bool, after: Table, table: &mut [u32])
     put_table(after, table);
 }
 
-// One fragment over the table's words. The exported calls that join share it, so that the fragment call has one caller here and is inlined.
+// One fragment over the table's words. The exported calls that join share it, so that the fragment call has one caller here and is inlined. The slices that come
+// last to an exported call, on the stack, come first here: so they go on in registers, one by one.
 pub(crate) fn joined(
-    lid: u32,
-    tick: u32,
-    lsdu: &[u8],
-    table: &mut [u32],
     store: &mut [u8],
     out: &mut [u8],
+    lsdu: &[u8],
+    table: &mut [u32],
+    lid: u32,
+    tick: u32,
 ) -> FragmentAnswer
     ensures { λ r. ⌜ FragmentPut lid tick (now (lsdu .entry)) (now (table .entry)) (now (store .entry)) (now (out .entry)) r (now (table .exit)) (now (store .exit)) (now (out .exit)) ⌝ }
 {
@@ -70,7 +71,7 @@ pub extern "C" fn semuryeon_fragment(
 ) -> u64
     ensures { λ r. ⌜ FragmentExported lid tick (now (lsdu .entry)) (now (table .entry)) (now (store .entry)) (now (out .entry)) r (now (table .exit)) (now (store .exit)) (now (out .exit)) ⌝ }
 {
-    fragment_number(joined(lid, tick, lsdu, table, store, out))
+    fragment_number(joined(store, out, lsdu, table, lid, tick))
 }
 
 fn swept(result: SweepResult, table: &mut [u32]) -> u64
