@@ -57,7 +57,7 @@ module _ (words : List ℕ) (after : Table) where
 
   back-is : (taken : Bool) → (taken ≡ true → Sound after) → (taken ≡ false → after ≡ tableIn words) → tableIn (keptWords taken after words) ≡ after
   unfolding UnpackingPacked keptWords
-  back-is true stays same = unpacking-packed after (stays refl .eight) (stays refl .sound)
+  back-is true stays same = unpacking-packed after (stays refl .eight)
   back-is false stays same = sym (same refl)
 
 -- the table of any words has eight slots

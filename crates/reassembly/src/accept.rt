@@ -75,7 +75,7 @@ pub(crate) fn accept(
 {
     let index = arrival.index;
     let begins = arrival.begins;
-    let held = slot.held;
+    let held = slot.held as usize;
     let before = choose(begins, 0, held);
     let dropped = choose(begins, held, 0);
     if arrival.last {
@@ -88,9 +88,9 @@ pub(crate) fn accept(
     let tick = choose32(begins, arrival.tick, slot.tick);
     let changed = Slot {
         lid: arrival.lid,
-        number: arrival.number,
+        number: arrival.number as u32,
         next: count,
-        held: octets,
+        held: octets as u32,
         tick,
     };
     keep(taken, changed, before, dropped, payload, store)

@@ -44,7 +44,7 @@ fn facts_of(slot: Slot, table: Table) -> Facts
     Facts {
         is_open: slot.next != 0,
         expected: slot.next,
-        held: slot.held,
+        held: slot.held as usize,
         full: slots::is_full(table),
     }
 }

@@ -19,15 +19,16 @@ pub const LOWEST_NUMBER: u8 = 2;
 
 pub const HIGHEST_NUMBER: u8 = 15;
 
-// One place of 01's table. A free slot is all zero. The longest field comes first, so that there are no gaps between fields.
+// One place of 01's table. A free slot is all zero. Each field has 32 bits, in the order of the words that hold a table outside (the crate `words`), so that a
+// table goes in and out as one block.
 pub struct Slot {
-    pub held: usize,
     pub lid: u32,
+    pub number: u32,
     // The counter that is expected next: as many as there were fragments.
     pub next: u32,
+    pub held: u32,
     // The tick of opening.
     pub tick: u32,
-    pub number: u8,
 }
 
 pub struct Table {

@@ -10,7 +10,7 @@ use crate::soundness::sound;
 use crate::word::word;
 
 // Whether the slot is busy with this pair.
-pub(crate) fn holds_pair(slot: Slot, lid: u32, number: u8) -> bool
+pub(crate) fn holds_pair(slot: Slot, lid: u32, number: u32) -> bool
     ensures { λ r. ⌜ r ≡ holdsPair lid number slot ⌝ }
 {
     if slot.next == 0 {
@@ -29,7 +29,7 @@ pub fn find(table: Table, lid: u32, number: u8) -> usize
     let mut i: usize = 0;
     while i < crate::SLOTS {
         let slot = table.slots[i];
-        if holds_pair(slot, lid, number) {
+        if holds_pair(slot, lid, number as u32) {
             return i;
         }
         i += 1;
@@ -64,7 +64,7 @@ pub fn held_for(table: Table, lid: u32, number: u8) -> usize
     ensures { λ r. ⌜ r ≡ heldFor table lid number ⌝ }
 {
     let slot = slot_at(table, find(table, lid, number));
-    slot.held
+    slot.held as usize
 }
 
 fn held_sum(slots: [Slot; 8]) -> usize
@@ -75,7 +75,7 @@ fn held_sum(slots: [Slot; 8]) -> usize
     let mut i: usize = 0;
     while i < crate::SLOTS {
         let slot = slots[i];
-        sum += slot.held;
+        sum += slot.held as usize;
         i += 1;
     }
     sum

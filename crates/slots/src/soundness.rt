@@ -35,23 +35,22 @@ fn all_zero(slot: Slot) -> bool
 fn busy_sound(slot: Slot) -> bool
     ensures { λ r. ⌜ r ≡ busySound slot ⌝ }
 {
-    let next = slot.next as usize;
-    if next < 1 {
+    if slot.next < 1 {
         return false;
     }
-    if slot.held < next {
+    if slot.held < slot.next {
         return false;
     }
-    if crate::SLOT_OCTETS < slot.held {
+    if crate::SLOT_OCTETS < slot.held as usize {
         return false;
     }
     if crate::LID_BOUND <= slot.lid {
         return false;
     }
-    if slot.number < crate::LOWEST_NUMBER {
+    if slot.number < crate::LOWEST_NUMBER as u32 {
         return false;
     }
-    slot.number <= crate::HIGHEST_NUMBER
+    slot.number <= crate::HIGHEST_NUMBER as u32
 }
 
 fn sound_slot(slot: Slot) -> bool

@@ -71,7 +71,7 @@ fn free_picked(slots: [Slot; 8], sweep: Sweep) -> Swept
         let slot = slots[i];
         if picked(sweep, slot) {
             left[i] = free_slot();
-            dropped += slot.held;
+            dropped += slot.held as usize;
         }
         i += 1;
     }

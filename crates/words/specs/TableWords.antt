@@ -1,6 +1,5 @@
 -- The table of slots as 41 words that a caller lends: the busy word, then LID, number, next counter, octets held and tick of each slot, in order. Words of
 -- another length are a table that is not sound (a busy word of all ones, which no sound table has), so that each call refuses it with 2 in 01's order.
--- A number or a count of octets that has no room in its field becomes the largest, which no sound slot has.
 -- Assumes nothing.
 use Prim.Native.Nat.{ℕ, _+_, _-_, _^_, _≤_}
 use mathlib.Core.Path.{_≡_}
@@ -13,7 +12,6 @@ use Rattle.refusals.specs.Check.{pick}
 use Rattle.slots.specs.declared.Slot.{Slot}
 use Rattle.slots.specs.declared.Table.{Table}
 use Rattle.slots.specs.Slots.{slotCount, emptyTable, isSound}
-use Rattle.words.specs.Word.{narrowTo}
 
 abbrev pub tableLength : ℕ
 tableLength = 41
@@ -21,7 +19,7 @@ tableLength = 41
 -- ---- packing
 
 abbrev pub slotWords : Slot → List ℕ
-slotWords slot = slot .lid ∷ slot .number ∷ slot .next ∷ narrowTo 32 (slot .held) ∷ slot .tick ∷ []
+slotWords slot = slot .lid ∷ slot .number ∷ slot .next ∷ slot .held ∷ slot .tick ∷ []
 
 unfoldable pub slotsWords : List Slot → List ℕ
 slotsWords [] = []
@@ -44,7 +42,7 @@ tableAfter table words = pick (eqb (length words) tableLength) (tableWords table
 abbrev pub slotIn : List ℕ → ℕ → Slot
 slotIn words at = record {
   lid = getD words at 0;
-  number = narrowTo 8 (getD words (at + 1) 0);
+  number = getD words (at + 1) 0;
   next = getD words (at + 2) 0;
   held = getD words (at + 3) 0;
   tick = getD words (at + 4) 0;
@@ -70,15 +68,14 @@ tableIn words = record {
 
 -- ---- laws (proofs/TableWords.antt proves each)
 
--- unpacking what was packed gives it back: each sound table of eight slots
+-- unpacking what was packed gives it back: each table of eight slots
 unfoldable pub UnpackingPacked : Type 0
-UnpackingPacked = (table : Table) → length (table .slots) ≡ slotCount → isSound table ≡ true → tableIn (tableWords table) ≡ table
+UnpackingPacked = (table : Table) → length (table .slots) ≡ slotCount → tableIn (tableWords table) ≡ table
 
 -- so words of the right length hold the table that was put into them
 unfoldable pub UnpackingPut : Type 0
 UnpackingPut =
-    (table : Table) (words : List ℕ) → length (table .slots) ≡ slotCount → isSound table ≡ true → length words ≡ tableLength
-    → tableIn (tableAfter table words) ≡ table
+    (table : Table) (words : List ℕ) → length (table .slots) ≡ slotCount → length words ≡ tableLength → tableIn (tableAfter table words) ≡ table
 
 -- words of another length are no sound table
 unfoldable pub WrongLength : Type 0

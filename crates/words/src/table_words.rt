@@ -2,8 +2,6 @@
 ghost use mathlib.Core.Path.{_≡_};
 ghost use Prim.Native.Nat.{_≤_};
 ghost use Rattle.words.specs.TableWords.{slotPut, slotIn, busyIn, tableIn, tableAfter};
-use crate::word::narrow;
-use crate::word::narrow_word;
 use crate::word::put;
 use crate::word::word;
 use slots::Slot;
@@ -21,9 +19,9 @@ fn slot_in(words: &[u32], at: usize) -> Slot
 {
     Slot {
         lid: word(words, at),
-        number: narrow(word(words, at + 1)),
+        number: word(words, at + 1),
         next: word(words, at + 2),
-        held: word(words, at + 3) as usize,
+        held: word(words, at + 3),
         tick: word(words, at + 4),
     }
 }
@@ -62,9 +60,9 @@ fn put_slot(words: &mut [u32], at: usize, slot: Slot)
     ensures { λ _. ⌜ now (words .exit) ≡ slotPut (now (words .entry)) at slot ⌝ }
 {
     put(words, at, slot.lid);
-    put(words, at + 1, slot.number as u32);
+    put(words, at + 1, slot.number);
     put(words, at + 2, slot.next);
-    put(words, at + 3, narrow_word(slot.held as u64));
+    put(words, at + 3, slot.held);
     put(words, at + 4, slot.tick);
 }
 

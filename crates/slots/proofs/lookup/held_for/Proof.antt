@@ -14,9 +14,12 @@ find-requires c κs = search needs
 slot-at-requires : tie.Need-slot-at-requires
 slot-at-requires c κs = search needs
 
+cast-result : tie.Need-cast-result
+cast-result c = search needs
+
 returns : tie.Need-returns
 unfolding heldFor
-returns c = ap (λ (s : Slot). s .held) (c .slot-at .ensures) ∙ ap (λ (k : ℕ). getD (c .before .before .args .table .slots) k free .held) (c .before .find .ensures)
+returns c = ap (λ (s : Slot). s .held) (c .before .slot-at .ensures) ∙ ap (λ (k : ℕ). getD (c .before .before .before .args .table .slots) k free .held) (c .before .before .find .ensures)
 
 pub held-for-spec : {M : Type 1} → statement M
-held-for-spec = tie.close (tie.spec find-requires slot-at-requires returns)
+held-for-spec = tie.close (tie.spec find-requires slot-at-requires cast-result returns)

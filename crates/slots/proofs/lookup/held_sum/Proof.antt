@@ -26,6 +26,9 @@ mul-slot c = search needs
 array-copy-out-slot : tie.Need-array-copy-out-slot Inv-loop μ-loop
 array-copy-out-slot c = search needs
 
+cast-sum : tie.Need-cast-sum Inv-loop μ-loop
+cast-sum c = search needs
+
 add-sum : tie.Need-add-sum Inv-loop μ-loop
 add-sum c = omega (arith, c .before .before .before .before .pre (c .before .before .before .loop .i) (c .before .before .loop-test .taken))
 
@@ -59,6 +62,7 @@ held-sum-spec =
     loop-holds
     mul-slot
     array-copy-out-slot
+    cast-sum
     add-sum
     add-i
     loop-less

@@ -42,6 +42,9 @@ mul-left c = search needs
 array-set-from-left : tie.Need-array-set-from-left Inv-loop μ-loop
 array-set-from-left c = search needs
 
+cast-dropped : tie.Need-cast-dropped Inv-loop μ-loop
+cast-dropped c = search needs
+
 add-dropped : tie.Need-add-dropped Inv-loop μ-loop
 add-dropped c = omega (arith, c .before .before .before .before .before .before .before .pre (c .before .before .before .before .before .before .loop .i) (c .before .before .before .before .before .loop-test .taken))
 
@@ -91,6 +94,7 @@ free-picked-spec =
     free-slot-requires
     mul-left
     array-set-from-left
+    cast-dropped
     add-dropped
     add-i
     loop-less

@@ -12,9 +12,6 @@ put-requires c κs = search needs
 add-put : tie.Need-add-put
 add-put c = search needs
 
-cast-put : tie.Need-cast-put
-cast-put c = search needs
-
 put-requires-2 : tie.Need-put-requires-2
 put-requires-2 c κs = search needs
 
@@ -26,9 +23,6 @@ put-requires-3 c κs = search needs
 
 add-put-3 : tie.Need-add-put-3
 add-put-3 c = search needs
-
-narrow-word-requires : tie.Need-narrow-word-requires
-narrow-word-requires c κs = search needs
 
 put-requires-4 : tie.Need-put-requires-4
 put-requires-4 c κs = search needs
@@ -46,13 +40,13 @@ returns : tie.Need-returns
 unfolding slotPut
 returns c =
     let c6 = c .before .before .before .before .before .before in
-    let c11 = c6 .before .before .before .before .before in
-    let c15 = c11 .before .before .before .before in
-    let c20 = c15 .before .before .before .before .before in
-    let start = c20 .before .before .before in
+    let c10 = c6 .before .before .before .before in
+    let c14 = c10 .before .before .before .before in
+    let c18 = c14 .before .before .before .before in
+    let start = c18 .before .before .before in
     let slot = start .args .slot in
-    five-stores (now (start .args .words)) _ _ _ _ _ (start .args .at) (slot .lid) (slot .number) (slot .next) _ _ (slot .tick)
-    (c20 .put .ensures) (c15 .put2 .ensures) (c11 .put3 .ensures) (c6 .put4 .ensures) (c6 .before .narrow-word .ensures) (c .before .before .put5 .ensures)
+    five-stores (now (start .args .words)) _ _ _ _ _ (start .args .at) (slot .lid) (slot .number) (slot .next) (slot .held) (slot .tick)
+    (c18 .put .ensures) (c14 .put2 .ensures) (c10 .put3 .ensures) (c6 .put4 .ensures) (c .before .before .put5 .ensures)
 
 pub put-slot-spec : {M : Type 1} → statement M
 put-slot-spec =
@@ -60,12 +54,10 @@ put-slot-spec =
     (tie.spec
     put-requires
     add-put
-    cast-put
     put-requires-2
     add-put-2
     put-requires-3
     add-put-3
-    narrow-word-requires
     put-requires-4
     add-put-4
     put-requires-5

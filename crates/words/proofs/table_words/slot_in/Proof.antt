@@ -1,6 +1,4 @@
 -- `words::table_words::slot_in` meets its contract: each field is its word. Assumes nothing.
-use mathlib.Core.Path.{_∙_, ap}
-use Rattle.words.specs.Word.{narrowTo}
 use borrow.Author.Needs.{needs}
 use Rattle.words.proofs.table_words.slot_in.Statement.{statement}
 use Rattle.words.proofs.table_words.slot_in.Tie as tie
@@ -14,9 +12,6 @@ add-word c = search needs
 word-requires-2 : tie.Need-word-requires-2
 word-requires-2 c κs = search needs
 
-narrow-requires : tie.Need-narrow-requires
-narrow-requires c κs = search needs
-
 add-word-2 : tie.Need-add-word-2
 add-word-2 c = search needs
 
@@ -29,9 +24,6 @@ add-word-3 c = search needs
 word-requires-4 : tie.Need-word-requires-4
 word-requires-4 c κs = search needs
 
-cast-t11 : tie.Need-cast-t11
-cast-t11 c = search needs
-
 add-word-4 : tie.Need-add-word-4
 add-word-4 c = search needs
 
@@ -41,10 +33,10 @@ word-requires-5 c κs = search needs
 returns : tie.Need-returns
 returns c =
     let c2 = c .before .before in
-    let c5 = c2 .before .before .before in
+    let c4 = c2 .before .before in
     λ i. record {
-      lid = c5 .word .ensures i;
-      number = (c2 .before .narrow .ensures ∙ ap (narrowTo 8) (c2 .before .before .word2 .ensures)) i;
+      lid = c4 .word .ensures i;
+      number = c2 .before .word2 .ensures i;
       next = c2 .word3 .ensures i;
       held = c .before .word4 .ensures i;
       tick = c .word5 .ensures i;
@@ -57,12 +49,10 @@ slot-in-spec =
     word-requires
     add-word
     word-requires-2
-    narrow-requires
     add-word-2
     word-requires-3
     add-word-3
     word-requires-4
-    cast-t11
     add-word-4
     word-requires-5
     returns)
