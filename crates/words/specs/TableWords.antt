@@ -3,7 +3,7 @@
 -- Assumes nothing.
 use Prim.Native.Nat.{ℕ, _+_, _-_, _^_, _≤_}
 use mathlib.Core.Path.{_≡_}
-use mathlib.Core.Bool.{true, false}
+use mathlib.Core.Bool.{false}
 use mathlib.Core.List.{List, [], _∷_, _++_}
 use lib.ListN.{length, getD, replicate}
 use lib.Seq.{sets}
@@ -66,7 +66,7 @@ tableIn words = record {
       ∷ [];
 }
 
--- ---- laws (proofs/TableWords.antt proves each)
+-- ---- laws (proofs/TableLaws.antt proves each)
 
 -- unpacking what was packed gives it back: each table of eight slots
 unfoldable pub UnpackingPacked : Type 0
