@@ -70,11 +70,11 @@ module _ {s : Bool} {vs : List Value} {r : Quill} {o o' : List ℕ} (p : Puts s 
     long : length (encode vs) ≡ 8 * size vs
     long = written-whole vs (ap (λ (q : Pen). q .ok) (told (p .good ok)))
 
-    pub place : least (r .at) ≡ least (8 * size vs)
-    place = p .good ok .to ∙ ap (λ (n : ℕ). least n) (zero-plus (length (p .good ok .w)) ∙ ap length (sym encoded) ∙ long)
-      where
-        zero-plus : (n : ℕ) → 0 + n ≡ n
-        zero-plus n = omega arith
+    octets-of : 0 + p .good ok .k ≡ size vs
+    octets-of = omega (arith, p .good ok .whole, ap length encoded, long)
+
+    pub place : least (r .at) ≡ least (size vs)
+    place = p .good ok .to ∙ ap least octets-of
 
     pub inked : Octets o → size vs ≤ 512 → size vs ≤ length o → (length o' ≡ length o) × (stringAt o' 0 (size vs) ≡ encodedOctets vs)
     unfolding encodedOctets
@@ -83,7 +83,7 @@ module _ {s : Bool} {vs : List Value} {r : Quill} {o o' : List ℕ} (p : Puts s 
         let x = octets (size vs) (encode vs) in
         let small : Bits (encode vs) = rw encoded (g .small) in
         let n : length x ≡ size vs = length-octets (size vs) (encode vs) in
-        let w : length (g .w) ≡ 8 * size vs = ap length (sym encoded) ∙ long in
+        let w = octets-of in
         let e : o' ≡ putBits o 0 (bits x) = g .ink h (omega arith) (omega arith) ∙ ap (putBits o 0) (sym encoded ∙ sym (bits-octets (size vs) (encode vs) small long)) in (
           ap length e ∙ length-put o 0 (bits x),
           ap (λ (l : List ℕ). stringAt l 0 (size vs)) e ∙ ap (stringAt (putBits o 0 (bits x)) 0) (sym n)
@@ -143,29 +143,26 @@ module _ (s : List ℕ) (m : Message) (es : List Entry) (rs : List Row) (out : L
       is-ok : r .ok ≡ true
       is-ok = not-false (r .ok) ok
 
-      far-is : 512 < r .at / 8 → 512 < size vs
-      far-is h = by-cases (ltb (8 * size vs) far) (λ t. near (ltb-true (8 * size vs) far t)) (λ t. omega (arith, ltb-false (8 * size vs) far t))
+      far-is : 512 < r .at → 512 < size vs
+      far-is h = by-cases (ltb (size vs) far) (λ t. near (ltb-true (size vs) far t)) (λ t. omega (arith, ltb-false (size vs) far t))
         where
-          near : 8 * size vs < far → 512 < size vs
-          near t = omega (arith, near-is (r .at) (8 * size vs) (place p is-ok) t)
+          near : size vs < far → 512 < size vs
+          near t = omega (arith, near-is (r .at) (size vs) (place p is-ok) t)
 
-      at-is : r .at / 8 ≤ 512 → r .at / 8 ≡ size vs
-      at-is h =
-          let a : r .at < far = omega arith in
-          let b : 8 * size vs ≡ r .at = near-is (8 * size vs) (r .at) (sym (place p is-ok)) a in
-          omega arith
+      at-is : r .at ≤ 512 → r .at ≡ size vs
+      at-is h = sym (near-is (size vs) (r .at) (sym (place p is-ok)) (omega arith))
 
-      pub writes-21 : 512 < r .at / 8 → Told (refusedAt 21 512) out
+      pub writes-21 : 512 < r .at → Told (refusedAt 21 512) out
       unfolding writeAnswer writeOutput answered
       writes-21 h = let e = refusal-21 (formed is-ok) (far-is h) in (rw e, rw e)
 
-      pub writes-22 : r .at / 8 ≤ 512 → length out < r .at / 8 → Told (refused 22) out
+      pub writes-22 : r .at ≤ 512 → length out < r .at → Told (refused 22) out
       unfolding writeAnswer writeOutput answered
       writes-22 h k = let a = at-is h in let e = refusal-22 (formed is-ok) (omega arith) (omega arith) in (rw e, rw e)
 
       -- the page is as long as the longest message, and the message is copied from its front
-      pub writes-octets : r .at / 8 ≤ 512 → r .at / 8 ≤ length out → Octets o → length o ≡ 512 → {out' : List ℕ} → out' ≡ copyString o' 0 (r .at / 8) out 0
-          → Told (so-many (r .at / 8)) out'
+      pub writes-octets : r .at ≤ 512 → r .at ≤ length out → Octets o → length o ≡ 512 → {out' : List ℕ} → out' ≡ copyString o' 0 (r .at) out 0
+          → Told (so-many (r .at)) out'
       unfolding writeAnswer writeOutput answered
       writes-octets h k octs page d =
           let a = at-is h in
@@ -173,5 +170,5 @@ module _ (s : List ℕ) (m : Message) (es : List Entry) (rs : List Row) (out : L
           let i = inked p is-ok octs (omega arith) (omega arith) in
           let l = i .0 in (
             rw (e, a),
-            rw e (d ∙ copied o' out (r .at / 8) (omega arith) k ∙ ap (λ (n : ℕ). stringAt o' 0 n ++ drop n out) a ∙ ap (λ (x : List ℕ). x ++ drop (size vs) out) (i .1)),
+            rw e (d ∙ copied o' out (r .at) (omega arith) k ∙ ap (λ (n : ℕ). stringAt o' 0 n ++ drop n out) a ∙ ap (λ (x : List ℕ). x ++ drop (size vs) out) (i .1)),
           )

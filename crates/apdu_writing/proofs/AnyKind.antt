@@ -1,11 +1,12 @@
--- A message of any kind: its choice, and then the rest.
+-- A message of any kind.
 -- Assumes nothing.
 use Prim.Native.Nat.{ℕ}
-use mathlib.Core.Path.{_≡_}
+use mathlib.Core.Path.{_≡_, refl}
 use mathlib.Core.List.{List, [], _∷_}
 use mathlib.Core.Bool.{true}
 use lib.ListN.{length}
-use Rattle.apdu_format.specs.Component.{choice, lead}
+use Rattle.apdu_format.specs.Component.{choice}
+use Rattle.apdu_format.specs.Table.{layoutOf}
 use Rattle.apdu_format.specs.Reading.{fields}
 use Rattle.apdu.specs.declared.lists.Row.{Row}
 use Rattle.apdu.specs.declared.lists.Entry.{Entry}
@@ -22,46 +23,45 @@ use Rattle.apdu.specs.declared.records.Vst.{Vst}
 use Rattle.apdu.specs.Values.{valuesOf, requestValues, actionResponseValues, responseValues, setRequestValues, getRequestValues, getResponseValues, bstValues, vstValues}
 use Rattle.apdu_writing.specs.declared.quill.Quill.{Quill}
 use Rattle.apdu.specs.Sound.{sound, requestSound, actionResponseSound, setRequestSound, getRequestSound, getResponseSound, bstSound, vstSound}
-use Rattle.apdu_writing.specs.Quill.{Moves, Puts}
-use Rattle.apdu_writing.proofs.Chains.{then}
+use Rattle.apdu_writing.specs.Quill.{Puts, As}
 
-module _ (s : List ℕ) (m : Message) (es : List Entry) (rs : List Row) {c d r : Quill} {o o₁ o₂ : List ℕ} where
-  pub put-0 : {x : Request} → m ≡ kind.ActionRequest x → Moves true (choice ∷ []) (lead 0 ∷ []) c d o o₁ (fields (0 ∷ []) ∷ []) → Puts (requestSound (length s) x rs) (lead 0 ∷ []) d r o₁ o₂ (requestValues s x rs) → Puts (sound (length s) m es rs) (choice ∷ []) c r o o₂ (valuesOf s m es rs)
+module _ (s : List ℕ) (m : Message) (es : List Entry) (rs : List Row) {c r : Quill} {o o' : List ℕ} where
+  pub put-0 : {x : Request} → m ≡ kind.ActionRequest x → As 0 0 (Puts (requestSound (length s) x rs) (choice ∷ []) c r o o' (fields (0 ∷ []) ∷ requestValues s x rs)) → Puts (sound (length s) m es rs) (choice ∷ []) c r o o' (valuesOf s m es rs)
   unfolding sound valuesOf
-  put-0 e p q = rw e (then p q)
+  put-0 e q = rw e (q .so (unfold layoutOf in refl))
 
-  pub put-1 : {x : ActionResponse} → m ≡ kind.ActionResponse x → Moves true (choice ∷ []) (lead 1 ∷ []) c d o o₁ (fields (1 ∷ []) ∷ []) → Puts (actionResponseSound (length s) x rs) (lead 1 ∷ []) d r o₁ o₂ (actionResponseValues s x rs) → Puts (sound (length s) m es rs) (choice ∷ []) c r o o₂ (valuesOf s m es rs)
+  pub put-1 : {x : ActionResponse} → m ≡ kind.ActionResponse x → Puts (actionResponseSound (length s) x rs) (choice ∷ []) c r o o' (fields (1 ∷ []) ∷ actionResponseValues s x rs) → Puts (sound (length s) m es rs) (choice ∷ []) c r o o' (valuesOf s m es rs)
   unfolding sound valuesOf
-  put-1 e p q = rw e (then p q)
+  put-1 e q = rw e (q)
 
-  pub put-2 : {x : Request} → m ≡ kind.EventRequest x → Moves true (choice ∷ []) (lead 2 ∷ []) c d o o₁ (fields (2 ∷ []) ∷ []) → Puts (requestSound (length s) x rs) (lead 2 ∷ []) d r o₁ o₂ (requestValues s x rs) → Puts (sound (length s) m es rs) (choice ∷ []) c r o o₂ (valuesOf s m es rs)
+  pub put-2 : {x : Request} → m ≡ kind.EventRequest x → As 2 0 (Puts (requestSound (length s) x rs) (choice ∷ []) c r o o' (fields (2 ∷ []) ∷ requestValues s x rs)) → Puts (sound (length s) m es rs) (choice ∷ []) c r o o' (valuesOf s m es rs)
   unfolding sound valuesOf
-  put-2 e p q = rw e (then p q)
+  put-2 e q = rw e (q .so (unfold layoutOf in refl))
 
-  pub put-3 : {x : Response} → m ≡ kind.EventResponse x → Moves true (choice ∷ []) (lead 3 ∷ []) c d o o₁ (fields (3 ∷ []) ∷ []) → Puts (true) (lead 3 ∷ []) d r o₁ o₂ (responseValues x) → Puts (sound (length s) m es rs) (choice ∷ []) c r o o₂ (valuesOf s m es rs)
+  pub put-3 : {x : Response} → m ≡ kind.EventResponse x → As 3 3 (Puts true (choice ∷ []) c r o o' (fields (3 ∷ []) ∷ responseValues x)) → Puts (sound (length s) m es rs) (choice ∷ []) c r o o' (valuesOf s m es rs)
   unfolding sound valuesOf
-  put-3 e p q = rw e (then p q)
+  put-3 e q = rw e (q .so (unfold layoutOf in refl))
 
-  pub put-4 : {x : SetRequest} → m ≡ kind.SetRequest x → Moves true (choice ∷ []) (lead 4 ∷ []) c d o o₁ (fields (4 ∷ []) ∷ []) → Puts (setRequestSound (length s) x rs) (lead 4 ∷ []) d r o₁ o₂ (setRequestValues s x rs) → Puts (sound (length s) m es rs) (choice ∷ []) c r o o₂ (valuesOf s m es rs)
+  pub put-4 : {x : SetRequest} → m ≡ kind.SetRequest x → Puts (setRequestSound (length s) x rs) (choice ∷ []) c r o o' (fields (4 ∷ []) ∷ setRequestValues s x rs) → Puts (sound (length s) m es rs) (choice ∷ []) c r o o' (valuesOf s m es rs)
   unfolding sound valuesOf
-  put-4 e p q = rw e (then p q)
+  put-4 e q = rw e (q)
 
-  pub put-5 : {x : Response} → m ≡ kind.SetResponse x → Moves true (choice ∷ []) (lead 5 ∷ []) c d o o₁ (fields (5 ∷ []) ∷ []) → Puts (true) (lead 5 ∷ []) d r o₁ o₂ (responseValues x) → Puts (sound (length s) m es rs) (choice ∷ []) c r o o₂ (valuesOf s m es rs)
+  pub put-5 : {x : Response} → m ≡ kind.SetResponse x → As 5 3 (Puts true (choice ∷ []) c r o o' (fields (5 ∷ []) ∷ responseValues x)) → Puts (sound (length s) m es rs) (choice ∷ []) c r o o' (valuesOf s m es rs)
   unfolding sound valuesOf
-  put-5 e p q = rw e (then p q)
+  put-5 e q = rw e (q .so (unfold layoutOf in refl))
 
-  pub put-6 : {x : GetRequest} → m ≡ kind.GetRequest x → Moves true (choice ∷ []) (lead 6 ∷ []) c d o o₁ (fields (6 ∷ []) ∷ []) → Puts (getRequestSound (length s) x) (lead 6 ∷ []) d r o₁ o₂ (getRequestValues s x) → Puts (sound (length s) m es rs) (choice ∷ []) c r o o₂ (valuesOf s m es rs)
+  pub put-6 : {x : GetRequest} → m ≡ kind.GetRequest x → Puts (getRequestSound (length s) x) (choice ∷ []) c r o o' (fields (6 ∷ []) ∷ getRequestValues s x) → Puts (sound (length s) m es rs) (choice ∷ []) c r o o' (valuesOf s m es rs)
   unfolding sound valuesOf
-  put-6 e p q = rw e (then p q)
+  put-6 e q = rw e (q)
 
-  pub put-7 : {x : GetResponse} → m ≡ kind.GetResponse x → Moves true (choice ∷ []) (lead 7 ∷ []) c d o o₁ (fields (7 ∷ []) ∷ []) → Puts (getResponseSound (length s) x rs) (lead 7 ∷ []) d r o₁ o₂ (getResponseValues s x rs) → Puts (sound (length s) m es rs) (choice ∷ []) c r o o₂ (valuesOf s m es rs)
+  pub put-7 : {x : GetResponse} → m ≡ kind.GetResponse x → Puts (getResponseSound (length s) x rs) (choice ∷ []) c r o o' (fields (7 ∷ []) ∷ getResponseValues s x rs) → Puts (sound (length s) m es rs) (choice ∷ []) c r o o' (valuesOf s m es rs)
   unfolding sound valuesOf
-  put-7 e p q = rw e (then p q)
+  put-7 e q = rw e (q)
 
-  pub put-8 : {x : Bst} → m ≡ kind.Bst x → Moves true (choice ∷ []) (lead 8 ∷ []) c d o o₁ (fields (8 ∷ []) ∷ []) → Puts (bstSound (length s) x es rs) (lead 8 ∷ []) d r o₁ o₂ (bstValues s x es rs) → Puts (sound (length s) m es rs) (choice ∷ []) c r o o₂ (valuesOf s m es rs)
+  pub put-8 : {x : Bst} → m ≡ kind.Bst x → Puts (bstSound (length s) x es rs) (choice ∷ []) c r o o' (fields (8 ∷ []) ∷ bstValues s x es rs) → Puts (sound (length s) m es rs) (choice ∷ []) c r o o' (valuesOf s m es rs)
   unfolding sound valuesOf
-  put-8 e p q = rw e (then p q)
+  put-8 e q = rw e (q)
 
-  pub put-9 : {x : Vst} → m ≡ kind.Vst x → Moves true (choice ∷ []) (lead 9 ∷ []) c d o o₁ (fields (9 ∷ []) ∷ []) → Puts (vstSound (length s) x es rs) (lead 9 ∷ []) d r o₁ o₂ (vstValues s x es rs) → Puts (sound (length s) m es rs) (choice ∷ []) c r o o₂ (valuesOf s m es rs)
+  pub put-9 : {x : Vst} → m ≡ kind.Vst x → Puts (vstSound (length s) x es rs) (choice ∷ []) c r o o' (fields (9 ∷ []) ∷ vstValues s x es rs) → Puts (sound (length s) m es rs) (choice ∷ []) c r o o' (valuesOf s m es rs)
   unfolding sound valuesOf
-  put-9 e p q = rw e (then p q)
+  put-9 e q = rw e (q)

@@ -1,6 +1,6 @@
 -- Writings put together: one component and what it brings, one after the other.
 -- Assumes nothing.
-use Prim.Native.Nat.{ℕ, _+_, _≤_, _<_}
+use Prim.Native.Nat.{ℕ, _+_, _*_, _≤_, _<_}
 use mathlib.Core.Path.{_≡_, refl, ap, sym, _∙_}
 use mathlib.Core.List.{List, [], _++_, append-assoc, append-nil}
 use mathlib.Core.Bool.{Bool, true, false, _&&_}
@@ -56,17 +56,20 @@ module _ {s t : Bool} {is js ks : List Component} {c d e : Quill} {o o₁ o₂ :
         came = p .came;
         w = p .w ++ q .w;
         small = below-append (p .small) (q .small);
+        k = p .k + q .k;
+        whole = let e = p .whole in let f = q .whole in omega (arith, n);
         so = λ rest b. rw (append-assoc vs ws rest) (p .so (ws ++ rest) b ∙ q .so rest (b ++ p .w) ∙ ap (λ (l : List ℕ). writes ks (penAt rest (e .room) l)) (append-assoc b (p .w) (q .w)));
-        to = q .to ∙ sym (least-add (d .at) (length (q .w))) ∙ ap (λ (i : ℕ). least (i + length (q .w))) (p .to) ∙ least-add (c .at + length (p .w)) (length (q .w))
-            ∙ ap least (add-assoc (c .at) (length (p .w)) (length (q .w)) ∙ ap (λ (i : ℕ). c .at + i) (sym n));
+        to = q .to ∙ sym (least-add (d .at) (q .k)) ∙ ap (λ (i : ℕ). least (i + q .k)) (p .to) ∙ least-add (c .at + p .k) (q .k) ∙ ap least (add-assoc (c .at) (p .k) (q .k));
         ink = λ octs near fits.
-            let e₁ : o₁ ≡ putBits o (c .at) (p .w) = p .ink octs (omega arith) (omega arith) in
-            let m : length o₁ ≡ length o = ap length e₁ ∙ length-put o (c .at) (p .w) in
-            let i : d .at ≡ c .at + length (p .w) = near-is (d .at) (c .at + length (p .w)) (p .to) (omega arith) in
-            let octs₁ : Octets o₁ = rw e₁ (put-small o (c .at) (p .w) (p .small) (omega arith)) in
+            let e₁ : o₁ ≡ putBits o (8 * c .at) (p .w) = p .ink octs (omega arith) (omega arith) in
+            let m : length o₁ ≡ length o = ap length e₁ ∙ length-put o (8 * c .at) (p .w) in
+            let a : d .at ≡ c .at + p .k = near-is (d .at) (c .at + p .k) (p .to) (omega arith) in
+            let l = p .whole in
+            let i : 8 * d .at ≡ 8 * c .at + length (p .w) = omega arith in
+            let octs₁ : Octets o₁ = rw e₁ (put-small o (8 * c .at) (p .w) (p .small) (omega arith)) in
             q .ink octs₁ (omega arith) (omega arith)
-            ∙ ap (λ (l : List ℕ). putBits l (d .at) (q .w)) e₁ ∙ ap (λ (i : ℕ). putBits (putBits o (c .at) (p .w)) i (q .w)) i
-            ∙ put-append o (c .at) (p .w) (q .w) (p .small) (omega arith);
+            ∙ ap (λ (l : List ℕ). putBits l (8 * d .at) (q .w)) e₁ ∙ ap (λ (i : ℕ). putBits (putBits o (8 * c .at) (p .w)) i (q .w)) i
+            ∙ put-append o (8 * c .at) (p .w) (q .w) (p .small) (omega (arith, q .whole));
       }
 
   fails : Moves s is js c d o o₁ vs → Moves t js ks d e o₁ o₂ ws → e .ok ≡ false → c .ok ≡ true → ((s && t) ≡ false) ⊎ Stops is (c .room) (vs ++ ws)
@@ -95,6 +98,8 @@ module _ {s : Bool} {is js : List Component} {c d : Quill} {o o' : List ℕ} {vs
               came = g .came;
               w = g .w;
               small = g .small;
+              k = g .k;
+              whole = g .whole;
               so = λ rest b.
                   writes-append is ks (penAt (vs ++ rest) (c .room) b) ∙ ap (writes ks) (g .so rest b) ∙ sym (writes-append js ks (penAt rest (d .room) (b ++ g .w)));
               to = g .to;
@@ -122,9 +127,11 @@ nothing is c o =
             came = h;
             w = [];
             small = below-nil (omega arith);
+            k = 0;
+            whole = refl;
             so = λ rest b. rw append-nil;
             to = ap (λ (n : ℕ). least n) (omega arith);
-            ink = λ octs near fits. sym (put-none o (c .at) octs);
+            ink = λ octs near fits. sym (put-none o (8 * c .at) octs);
           };
       bad = λ h k. never (sym h ∙ k);
     }

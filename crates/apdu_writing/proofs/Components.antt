@@ -3,13 +3,13 @@
 use Prim.Native.Nat.{ℕ, zero, suc, _+_, _*_, _≤_, _<_}
 use mathlib.Core.Path.{_≡_, refl, ap, sym, _∙_}
 use mathlib.Core.List.{List, [], _∷_, _++_}
-use mathlib.Core.Bool.{Bool, true, false, _&&_}
+use mathlib.Core.Bool.{Bool, true, false, _&&_, not}
 use mathlib.Core.Logic.{inl}
 use native.Mathlib.Omega.{arith}
 use lib.ListN.{length, take, drop, length-drop}
 use lib.Seq.{drop-drop, take-add, length-take-le}
 use lib.Dec.{ltb}
-use borrow.Author.Tests.{le-leb, le-ltb}
+use borrow.Author.Tests.{le-leb, ltb-true, not-true, not-false}
 use Rattle.refusals.specs.Check.{pick, firstOf}
 use Rattle.refusals.proofs.Tests.{by-cases, and-true, and-right}
 use Rattle.bits.specs.Bits.{bits, digits, putBits, writeField, field}
@@ -21,7 +21,7 @@ use Rattle.apdu_format.specs.Component.{Component, integer, stringForm, stringL
 use Rattle.apdu_format.specs.Rules.{raw, shape, checksOf, brings, announced, when}
 use Rattle.apdu_format.specs.Reading.{Value, fields, string, numbersOf, sum, need, valueAt}
 use Rattle.apdu_format.specs.Writing.{bitsOf, fits, isValue, fieldBits, fieldsFit}
-use Rattle.apdu_format.proofs.Tests.{never}
+use Rattle.apdu_format.proofs.Tests.{never, both}
 use Rattle.apdu.specs.Values.{num, str, if}
 use Rattle.apdu.proofs.Laws.{and-unit}
 use Rattle.apdu_writing.specs.declared.quill.Quill.{Quill}
@@ -35,10 +35,10 @@ number-range : (room n : ℕ) → ltb n 128 ≡ isValue integer room (num n)
 unfolding isValue fits shape fieldsFit checksOf firstOf numbersOf
 number-range room n = sym (and-unit (ltb n 128 && true) ∙ and-unit (ltb n 128))
 
-pub number-by : (n : ℕ) {c r : Quill} {o o' : List ℕ} → Put 8 (ltb n 128) c r (writeField o (c .at) 8 n) o o' → Puts true (integer ∷ []) c r o o' (num n ∷ [])
+pub number-by : (n : ℕ) {c r : Quill} {o o' : List ℕ} → Put 1 (ltb n 128) c r (writeField o (8 * c .at) 8 n) o o' → Puts true (integer ∷ []) c r o o' (num n ∷ [])
 unfolding brings announced sum
 number-by n {c} {r} {o} p =
-    leaf integer (num n) p (in-number integer (1 ∷ 7 ∷ []) (0 ∷ n ∷ []) n (ltb n 128) (c .room) o (c .at) (unfold shape in refl) (omega arith) (number-range (c .room) n) (λ g. unfold packed in omega arith)) refl
+    leaf integer (num n) p (in-number integer (1 ∷ 7 ∷ []) (0 ∷ n ∷ []) n (ltb n 128) (c .room) o (8 * c .at) (unfold shape in refl) (omega arith) (number-range (c .room) n) (λ g. unfold packed in omega arith)) refl
 
 -- ---- optional components
 
@@ -90,7 +90,7 @@ module _ (s : List ℕ) (start n : ℕ) where
   unfolding writeString writeFits
   octets-written o at h f = rw (h, inside-is (length o) at f) (ap (putBits o at) (string-bits s start n (inside-le (length s) start n h)))
 
-  module _ {c r : Quill} {o o' : List ℕ} (p : Put (8 * n) (isInside (length s) start n) c r (writeString s start n o (c .at)) o o') where
+  module _ {c r : Quill} {o o' : List ℕ} (p : Put n (isInside (length s) start n) c r (writeString s start n o (8 * c .at)) o o') where
     octets-inside : isInside (length s) start n ≡ true → Puts true (stringOctets n ∷ []) c r o o' (octetsValue ∷ [])
     unfolding bitsOf shape announced brings
     octets-inside h =
@@ -100,7 +100,7 @@ module _ (s : List ℕ) (start n : ℕ) where
           range = h ∙ sym (octets-range (c .room) h);
           small = λ g. below-take (8 * n) (below-drop start (bits-small s));
           long = λ g. length-take-le (8 * n) (drop start (bits s)) (omega (arith, length-drop start (bits s), length-bits s));
-          put = λ g f. octets-written o (c .at) h f;
+          put = λ g f. octets-written o (8 * c .at) h f;
         })
         refl
 
@@ -123,8 +123,13 @@ form-length n g =
     let f : fieldsFit (1 ∷ 7 ∷ []) (0 ∷ n ∷ []) ≡ true = rw g in
     ap (digits 8) v ∙ pack (1 ∷ 7 ∷ []) (0 ∷ n ∷ []) f ∙ form-bits n
 
+-- a length that was written is small
+pub short-by : {n : ℕ} {c r : Quill} {x o o' : List ℕ} → Put 1 (ltb n 128) c r x o o' → not (r .ok) ≡ false → n < 128
+unfolding behind
+short-by {n} {c} {r} p h = ltb-true n 128 (both (c .ok) (ltb n 128) (sym (ap (λ (z : Quill). z .ok) (p .is)) ∙ not-false (r .ok) h) .1)
+
 -- an octet string: its form and its length, and its octets
-module _ (s : List ℕ) (start n : ℕ) {c e : Quill} {o o₁ : List ℕ} (long : Put 8 (ltb n 128) c e (writeField o (c .at) 8 n) o o₁) where
+module _ (s : List ℕ) (start n : ℕ) {c e : Quill} {o o₁ : List ℕ} (long : Put 1 (ltb n 128) c e (writeField o (8 * c .at) 8 n) o o₁) where
   length-by : Moves true (stringForm ∷ []) (stringOctets n ∷ []) c e o o₁ (fields (0 ∷ []) ∷ fields (n ∷ []) ∷ [])
   unfolding brings announced numbersOf
   length-by =
@@ -133,11 +138,9 @@ module _ (s : List ℕ) (start n : ℕ) {c e : Quill} {o o₁ : List ℕ} (long 
       (unfold isValue fits shape fieldsFit checksOf firstOf numbersOf in sym (and-unit (ltb n 128 && true) ∙ and-unit (ltb n 128)))
       (form-length n)
 
-  pub string-by : {r : Quill} {o₂ : List ℕ} → Put (8 * n) (isInside (length s) start n) e r (writeString s start n o₁ (e .at)) o₁ o₂
+  pub string-by : {r : Quill} {o₂ : List ℕ} → Put n (isInside (length s) start n) e r (writeString s start n o₁ (8 * e .at)) o₁ o₂
       → Puts (isInside (length s) start n) (stringForm ∷ []) c r o o₂ (str s start n)
   string-by p = then length-by (octets-by s start n p)
 
-  pub string-long : 127 < n → Puts (isInside (length s) start n) (stringForm ∷ []) c e o o₁ (str s start n)
-  string-long h =
-      let no : e .ok ≡ false = ap (λ (z : Quill). z .ok) (long .is) ∙ unfold behind in and-right (c .ok) (le-ltb n 128 (omega arith)) in
-      then length-by (idle no no)
+  pub string-stopped : not (e .ok) ≡ true → Puts (isInside (length s) start n) (stringForm ∷ []) c e o o₁ (str s start n)
+  string-stopped h = let no = not-true (e .ok) h in then length-by (idle no no)

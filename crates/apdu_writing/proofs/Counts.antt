@@ -32,9 +32,9 @@ use Rattle.apdu_writing.proofs.Leaves.{packed, Writes, leaf, leaf-spent
 
 -- an extension bit 0 and a number, in the code
 octet-by : (i : Component) (n : ℕ) (fine : Bool) (c : Quill) (o : List ℕ) → shape i ≡ widths (1 ∷ 7 ∷ []) → fine ≡ isValue i (c .room) (num n)
-    → Writes i (num n) 8 fine (c .room) (writeField o (c .at) 8 n) o (c .at)
+    → Writes i (num n) 8 fine (c .room) (writeField o (8 * c .at) 8 n) o (8 * c .at)
 unfolding sum
-octet-by i n fine c o s e = in-number i (1 ∷ 7 ∷ []) (0 ∷ n ∷ []) n fine (c .room) o (c .at) s (omega arith) e (λ g. unfold packed in omega arith)
+octet-by i n fine c o s e = in-number i (1 ∷ 7 ∷ []) (0 ∷ n ∷ []) n fine (c .room) o (8 * c .at) s (omega arith) e (λ g. unfold packed in omega arith)
 
 -- ---- counts
 
@@ -44,19 +44,19 @@ count-range n =
     (λ h. let k = leb-true n 16 h in h ∙ rw (lt-ltb n 128 (omega arith), le-ltb 16 n k))
     (λ h. h ∙ sym (and-right (ltb n 128 && true) (rw (lt-ltb 16 n (leb-false n 16 h)))))
 
-pub ids-by : (n : ℕ) {c r : Quill} {o o' : List ℕ} → Put 8 (leb n 16) c r (writeField o (c .at) 8 n) o o'
+pub ids-by : (n : ℕ) {c r : Quill} {o o' : List ℕ} → Put 1 (leb n 16) c r (writeField o (8 * c .at) 8 n) o o'
     → Moves true (idCount ∷ []) ((listStart ∷ []) ++ times n (integer ∷ [])) c r o o' (num n ∷ [])
 unfolding brings announced numbersOf
 ids-by n {c} {r} {o} p =
     leaf idCount (num n) p (octet-by idCount n (leb n 16) c o (unfold shape in refl) (unfold isValue fits shape fieldsFit checksOf firstOf numbersOf in count-range n)) refl
 
-pub entries-by : (n : ℕ) {c r : Quill} {o o' : List ℕ} → Put 8 (leb n 16) c r (writeField o (c .at) 8 n) o o'
+pub entries-by : (n : ℕ) {c r : Quill} {o o' : List ℕ} → Put 1 (leb n 16) c r (writeField o (8 * c .at) 8 n) o o'
     → Moves true (entryCount ∷ []) (times n (entry ∷ [])) c r o o' (num n ∷ [])
 unfolding brings announced numbersOf
 entries-by n {c} {r} {o} p =
     leaf entryCount (num n) p (octet-by entryCount n (leb n 16) c o (unfold shape in refl) (unfold isValue fits shape fieldsFit checksOf firstOf numbersOf in count-range n)) refl
 
-pub few-by : {n : ℕ} {c r : Quill} {x o o' : List ℕ} → Put 8 (leb n 16) c r x o o' → Few n r
+pub few-by : {n : ℕ} {c r : Quill} {x o o' : List ℕ} → Put 1 (leb n 16) c r x o o' → Few n r
 unfolding behind
 few-by {n} {c} p = record { so = λ h. leb-true n 16 (both (c .ok) (leb n 16) (sym (ap (λ (z : Quill). z .ok) (p .is)) ∙ h) .1) }
 
@@ -69,7 +69,7 @@ rows-range n room =
     (λ g. rw (h, g, lt-ltb n 128 (omega arith), le-ltb 16 n k, lt-ltb room n (leb-false n room g))))
     (λ h. rw (h, lt-ltb 16 n (leb-false n 16 h)) (sym (and-right (ltb n 128 && true) refl)))
 
-pub rows-by : (d n : ℕ) {c r e : Quill} {o o' : List ℕ} → Put 8 (leb n 16 && leb n (c .room)) c r (writeField o (c .at) 8 n) o o' → e ≡ spent n r
+pub rows-by : (d n : ℕ) {c r e : Quill} {o o' : List ℕ} → Put 1 (leb n 16 && leb n (c .room)) c r (writeField o (8 * c .at) 8 n) o o' → e ≡ spent n r
     → Moves true (rowCount d ∷ []) (times n (integer ∷ container d ∷ [])) c e o o' (num n ∷ [])
 unfolding brings announced numbersOf spent
 rows-by d n {c} {r} {e} {o} p q =
@@ -94,14 +94,14 @@ kind-range d k =
     (λ g. rw (h, g, le-ltb 4 d (leb-true d 4 h)) (sym (and-right (ltb k 128 && true) refl))))
     (λ h. rw (h, lt-ltb 4 d (leb-false d 4 h)) (sym (and-right (ltb k 128 && true) refl)))
 
-pub kind-by : (d k : ℕ) {known : Bool} {c r : Quill} {o o' : List ℕ} → known ≡ knownKind k → Put 8 (leb d 4 && known) c r (writeField o (c .at) 8 k) o o'
+pub kind-by : (d k : ℕ) {known : Bool} {c r : Quill} {o o' : List ℕ} → known ≡ knownKind k → Put 1 (leb d 4 && known) c r (writeField o (8 * c .at) 8 k) o o'
     → Moves true (container d ∷ []) (content d k) c r o o' (num k ∷ [])
 unfolding brings announced numbersOf
 kind-by d k {known} {c} {r} {o} e p =
     leaf (container d) (num k) p
     (octet-by (container d) k (leb d 4 && known) c o (unfold shape in refl) (ap (λ (b : Bool). leb d 4 && b) e ∙ unfold isValue fits shape fieldsFit checksOf firstOf numbersOf in kind-range d k)) refl
 
-pub known-by : {d k : ℕ} {known : Bool} {c r : Quill} {x o o' : List ℕ} → known ≡ knownKind k → Put 8 (leb d 4 && known) c r x o o' → Known d k r
+pub known-by : {d k : ℕ} {known : Bool} {c r : Quill} {x o o' : List ℕ} → known ≡ knownKind k → Put 1 (leb d 4 && known) c r x o o' → Known d k r
 unfolding behind
 known-by {d} {k} {known} {c} {r} e p =
     let all : r .ok ≡ true → (leb d 4 ≡ true) × (known ≡ true) =
@@ -138,13 +138,13 @@ module _ (s : List ℕ) (at : ℕ) where
   unfolding packed sum
   id-packed n e = let m = octet-number in omega arith
 
-  id-by : {n : ℕ} {c r : Quill} {o o' : List ℕ} → n ≡ readField s at 8 → Put 8 (ltb n 128) c r (writeField o (c .at) 8 n) o o'
+  id-by : {n : ℕ} {c r : Quill} {o o' : List ℕ} → n ≡ readField s at 8 → Put 1 (ltb n 128) c r (writeField o (8 * c .at) 8 n) o o'
       → Puts true (integer ∷ []) c r o o' (idAt s at ∷ [])
   unfolding brings announced sum shape
   id-by {n} {c} {r} {o} e p =
       rw id-is
       (leaf integer (fields (number 1 l ∷ number 7 (drop 1 l) ∷ [])) p
-      (in-number integer (1 ∷ 7 ∷ []) (number 1 l ∷ number 7 (drop 1 l) ∷ []) n (ltb n 128) (c .room) o (c .at) refl (omega arith) (id-fits n (c .room) e) (λ g. id-packed n e)) refl)
+      (in-number integer (1 ∷ 7 ∷ []) (number 1 l ∷ number 7 (drop 1 l) ∷ []) n (ltb n 128) (c .room) o (8 * c .at) refl (omega arith) (id-fits n (c .room) e) (λ g. id-packed n e)) refl)
 
 pub room-stays : {w : ℕ} {fine : Bool} {c r : Quill} {x o o' : List ℕ} → Put w fine c r x o o' → r .room ≡ c .room
 unfolding behind
@@ -152,7 +152,7 @@ room-stays p = ap (λ (z : Quill). z .room) (p .is)
 
 -- an id read behind the first octets
 pub id-behind : (s : List ℕ) (start i : ℕ) {n : ℕ} {c r : Quill} {o o' : List ℕ} → start / 8 ≤ length s
-    → n ≡ readField (take (length s - start / 8) (drop (start / 8) s)) (start % 8 + 8 * i) 8 → Put 8 (ltb n 128) c r (writeField o (c .at) 8 n) o o'
+    → n ≡ readField (take (length s - start / 8) (drop (start / 8) s)) (start % 8 + 8 * i) 8 → Put 1 (ltb n 128) c r (writeField o (8 * c .at) 8 n) o o'
     → Puts true (integer ∷ []) c r o o' (idAt s (start + 8 * i) ∷ [])
 id-behind s start i {n} h e p =
     id-by s (start + 8 * i) (e ∙ rw whole read) p
@@ -179,11 +179,13 @@ starts start c o =
             came = h;
             w = [];
             small = below-nil (omega arith);
+            k = 0;
+            whole = refl;
             so = λ rest b.
                 writes-fine listStart (c .room) (string start []) rest b (unfold isValue fits shape checksOf firstOf areBits in refl)
                 ∙ ap (λ (k : ℕ). writes [] (penAt rest k (b ++ []))) (less (c .room));
             to = ap (λ (n : ℕ). least n) (omega arith);
-            ink = λ octs near fits. sym (put-none o (c .at) octs);
+            ink = λ octs near fits. sym (put-none o (8 * c .at) octs);
           };
       bad = λ h k. never (sym h ∙ k);
     }

@@ -45,20 +45,20 @@ module _ (e : Entry) where
   entry-packed p q f g = let h = f .is (ltb-true (e .aid) 32 g) in omega arith
 
   entry-lead : {x y z : ℕ} {c r : Quill} {o o' : List ℕ} → x ≡ bitOf (e .«has_eid») → y ≡ bitOf (e .«has_parameter») → Small (e .aid) 32 z
-      → Put 8 (ltb (e .aid) 32) c r (writeField o (c .at) 8 (128 * x + 64 * y + z)) o o'
+      → Put 1 (ltb (e .aid) 32) c r (writeField o (8 * c .at) 8 (128 * x + 64 * y + z)) o o'
       → Moves true (entry ∷ []) (when (e .«has_eid») (integer ∷ []) ++ when (e .«has_parameter») (container 1 ∷ [])) c r o o' (fields fs ∷ [])
   unfolding brings announced numbersOf sum
   entry-lead {x} {y} {z} {c} {r} {o} p q f m =
       rw (← brought)
       (leaf entry (fields fs) m
-      (in-number entry (1 ∷ 1 ∷ 1 ∷ 5 ∷ []) fs (128 * x + 64 * y + z) (ltb (e .aid) 32) (c .room) o (c .at) (unfold shape in refl) (omega arith) (entry-range (c .room)) (entry-packed p q f)) refl)
+      (in-number entry (1 ∷ 1 ∷ 1 ∷ 5 ∷ []) fs (128 * x + 64 * y + z) (ltb (e .aid) 32) (c .room) o (8 * c .at) (unfold shape in refl) (omega arith) (entry-range (c .room)) (entry-packed p q f)) refl)
     where
       brought : when (isSet fs 0) (integer ∷ []) ++ when (isSet fs 1) (container 1 ∷ []) ≡ when (e .«has_eid») (integer ∷ []) ++ when (e .«has_parameter») (container 1 ∷ [])
       brought = rw (is-set (e .«has_eid»), is-set (e .«has_parameter»))
 
   -- with its own rows, at the front of rs
   pub entry-by : (s : List ℕ) (rs : List Row) {own x y z : ℕ} {c d f r : Quill} {o o₁ o₂ o₃ : List ℕ} → own ≡ entryRows e → x ≡ bitOf (e .«has_eid») → y ≡ bitOf (e .«has_parameter») → Small (e .aid) 32 z
-      → Put 8 (ltb (e .aid) 32) c d (writeField o (c .at) 8 (128 * x + 64 * y + z)) o o₁
+      → Put 1 (ltb (e .aid) 32) c d (writeField o (8 * c .at) 8 (128 * x + 64 * y + z)) o o₁
       → Puts true (when (e .«has_eid») (integer ∷ [])) d f o₁ o₂ (num-if (e .«has_eid») (e .eid))
       → Puts (soundIf (e .«has_parameter») (containerSound (length s) (e .kind) (e .n) (e .start) (take own rs))) (when (e .«has_parameter») (container 1 ∷ [])) f r o₂ o₃ (if (e .«has_parameter») (containerValues s (e .kind) (e .n) (e .start) (take own rs)))
       → Puts (entrySound (length s) e (take (entryRows e) rs)) (entry ∷ []) c r o o₃ (entryValues s e (take (entryRows e) rs))

@@ -77,35 +77,36 @@ wrong true b h k = k
 wrong false b h k = never h
 
 -- a quill that differs from r in its room only
-pub leaf-spent : (i : Component) (v : Value) {w : ℕ} {fine : Bool} {c r e : Quill} {x o o' : List ℕ}
-    → Put w fine c r x o o' → Writes i v w fine (c .room) x o (c .at) → e ≡ quill (r .at) (r .room - announced i (numbersOf v)) (r .ok)
+pub leaf-spent : (i : Component) (v : Value) {k : ℕ} {fine : Bool} {c r e : Quill} {x o o' : List ℕ}
+    → Put k fine c r x o o' → Writes i v (8 * k) fine (c .room) x o (8 * c .at) → e ≡ quill (r .at) (r .room - announced i (numbersOf v)) (r .ok)
     → Moves true (i ∷ []) (brings i (numbersOf v)) c e o o' (v ∷ [])
 unfolding behind
-leaf-spent i v {w} {fine} {c} {r} {e} {x} {o} {o'} p q s =
+leaf-spent i v {k} {fine} {c} {r} {e} {x} {o} {o'} p q s =
     let ok : e .ok ≡ (c .ok && fine) = ap (λ (z : Quill). z .ok) s ∙ ap (λ (z : Quill). z .ok) (p .is) in
     let m = bitsOf (shape i) v in
     record {
       good = λ h.
           let a = both (c .ok) fine (sym ok ∙ h) in
           let room : e .room ≡ c .room - announced i (numbersOf v) = ap (λ (z : Quill). z .room) s ∙ ap (λ (z : Quill). z .room - announced i (numbersOf v)) (p .is) in
-          let at : e .at ≡ least (c .at + w) = ap (λ (z : Quill). z .at) s ∙ ap (λ (z : Quill). z .at) (p .is) ∙ rw (and-true (a .0) (a .1)) in
-          let n = q .long (a .1) in
+          let at : e .at ≡ least (c .at + k) = ap (λ (z : Quill). z .at) s ∙ ap (λ (z : Quill). z .at) (p .is) ∙ rw (and-true (a .0) (a .1)) in
           record {
             holds = refl;
             came = a .0;
             w = m;
             small = q .small (a .1);
-            so = λ rest b. writes-fine i (c .room) v rest b (sym (q .range) ∙ a .1) ∙ ap (λ (k : ℕ). writes (brings i (numbersOf v)) (penAt rest k (b ++ m))) (sym room);
-            to = ap least at ∙ least-least (c .at + w) ∙ ap (λ (k : ℕ). least (c .at + k)) (sym n);
+            k = k;
+            whole = q .long (a .1);
+            so = λ rest b. writes-fine i (c .room) v rest b (sym (q .range) ∙ a .1) ∙ ap (λ (l : ℕ). writes (brings i (numbersOf v)) (penAt rest l (b ++ m))) (sym room);
+            to = ap least at ∙ least-least (c .at + k);
             ink = λ octs near fits. p .out ∙ rw (and-true (a .0) (a .1)) (q .put (a .1) (omega arith));
           };
-      bad = λ h k.
-          let f : fine ≡ false = wrong (c .ok) fine k (sym ok ∙ h) in
+      bad = λ h g.
+          let f : fine ≡ false = wrong (c .ok) fine g (sym ok ∙ h) in
           inr (record { so = λ rest b. writes-wrong i (c .room) v rest b (sym (q .range) ∙ f) });
     }
 
-pub leaf : (i : Component) (v : Value) {w : ℕ} {fine : Bool} {c r : Quill} {x o o' : List ℕ}
-    → Put w fine c r x o o' → Writes i v w fine (c .room) x o (c .at) → announced i (numbersOf v) ≡ 0
+pub leaf : (i : Component) (v : Value) {k : ℕ} {fine : Bool} {c r : Quill} {x o o' : List ℕ}
+    → Put k fine c r x o o' → Writes i v (8 * k) fine (c .room) x o (8 * c .at) → announced i (numbersOf v) ≡ 0
     → Moves true (i ∷ []) (brings i (numbersOf v)) c r o o' (v ∷ [])
 leaf i v {r = r} p q n = leaf-spent i v p q (ap (λ (k : ℕ). quill (r .at) k (r .ok)) (rw n (omega arith)))
 
@@ -132,9 +133,9 @@ in-number i ws fs n fine room o at s h e f =
     rw s (ap (digits (sum ws)) (f g) ∙ pack ws fs k))
 
 -- two components in one field of the code: the first, which is in range, brings the second
-pub leaf-two : (i j : Component) (v u : Value) (n : ℕ) {w : ℕ} {fine : Bool} {c r : Quill} {o o' : List ℕ} → Put w fine c r (writeField o (c .at) w n) o o' → w ≤ 48
+pub leaf-two : (i j : Component) (v u : Value) (n : ℕ) {w : ℕ} {fine : Bool} {c r : Quill} {o o' : List ℕ} → Put w fine c r (writeField o (8 * c .at) (8 * w) n) o o' → w ≤ 6
     → brings i (numbersOf v) ≡ j ∷ [] → announced i (numbersOf v) ≡ 0 → announced j (numbersOf u) ≡ 0 → isValue i (c .room) v ≡ true → fine ≡ isValue j (c .room) u
-    → (fine ≡ true → digits w n ≡ bitsOf (shape i) v ++ bitsOf (shape j) u) → Moves true (i ∷ []) (brings j (numbersOf u)) c r o o' (v ∷ u ∷ [])
+    → (fine ≡ true → digits (8 * w) n ≡ bitsOf (shape i) v ++ bitsOf (shape j) u) → Moves true (i ∷ []) (brings j (numbersOf u)) c r o o' (v ∷ u ∷ [])
 unfolding behind writeField fieldFits
 leaf-two i j v u n {w} {fine} {c} {r} {o} {o'} p h e k l here range f =
     let ok : r .ok ≡ (c .ok && fine) = ap (λ (z : Quill). z .ok) (p .is) in
@@ -147,19 +148,20 @@ leaf-two i j v u n {w} {fine} {c} {r} {o} {o'} p h e k l here range f =
       good = λ g.
           let a = both (c .ok) fine (sym ok ∙ g) in
           let at : r .at ≡ least (c .at + w) = ap (λ (z : Quill). z .at) (p .is) ∙ rw (and-true (a .0) (a .1)) in
-          let d : digits w n ≡ m = f (a .1) in
-          let s : length m ≡ w = ap length (sym d) ∙ length-digits w n in
+          let d : digits (8 * w) n ≡ m = f (a .1) in
           record {
             holds = refl;
             came = a .0;
             w = m;
-            small = rw (← d) (digits-small w n);
+            small = rw (← d) (digits-small (8 * w) n);
+            k = w;
+            whole = ap length (sym d) ∙ length-digits (8 * w) n;
             so = λ rest b.
                 first (u ∷ rest) b ∙ writes-fine j (c .room) u rest (b ++ bitsOf (shape i) v) (sym range ∙ a .1)
                 ∙ ap (λ (q : ℕ). writes (brings j (numbersOf u)) (penAt rest q ((b ++ bitsOf (shape i) v) ++ bitsOf (shape j) u))) (less (c .room) l ∙ sym room)
                 ∙ ap (λ (q : List ℕ). writes (brings j (numbersOf u)) (penAt rest (r .room) q)) (append-assoc b (bitsOf (shape i) v) (bitsOf (shape j) u));
-            to = ap least at ∙ least-least (c .at + w) ∙ ap (λ (q : ℕ). least (c .at + q)) (sym s);
-            ink = λ octs near fits. p .out ∙ rw (and-true (a .0) (a .1), le-leb w 48 h, le-leb (c .at + w) (8 * length o) (omega arith)) (ap (putBits o (c .at)) d);
+            to = ap least at ∙ least-least (c .at + w);
+            ink = λ octs near fits. p .out ∙ rw (and-true (a .0) (a .1), le-leb (8 * w) 48 (omega arith), le-leb (8 * c .at + 8 * w) (8 * length o) (omega arith)) (ap (putBits o (8 * c .at)) d);
           };
       bad = λ g q.
           let b : fine ≡ false = wrong (c .ok) fine q (sym ok ∙ g) in

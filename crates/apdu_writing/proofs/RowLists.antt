@@ -108,7 +108,7 @@ resound {s} {is} {js} {c} {r} {o} {o'} {vs} t p f g =
     record {
       good = λ h.
           let m = p .good h in
-          record { holds = f h (m .holds); came = m .came; w = m .w; small = m .small; so = m .so; to = m .to; ink = m .ink };
+          record { holds = f h (m .holds); came = m .came; w = m .w; small = m .small; k = m .k; whole = m .whole; so = m .so; to = m .to; ink = m .ink };
       bad = λ h k. judged (p .bad h k);
     }
   where

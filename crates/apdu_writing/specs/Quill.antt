@@ -10,6 +10,7 @@ use lib.Dec.{ltb}
 use Rattle.refusals.specs.Check.{pick}
 use Rattle.bits.specs.Bits.{Bits, Octets, putBits}
 use Rattle.apdu_format.specs.Component.{Component}
+use Rattle.apdu_format.specs.Table.{layoutOf}
 use Rattle.apdu_format.specs.Rules.{knownKind}
 use Rattle.apdu_format.specs.Reading.{Value, levels}
 use Rattle.apdu_format.specs.Writing.{Pen, puts}
@@ -20,20 +21,21 @@ quill at room ok = record { at = at; room = room; ok = ok }
 
 -- ---- what the quill's functions compute
 
+-- places are octets
 abbrev pub far : ℕ
-far = 32768
+far = 4096
 
 -- a place, or the first that no message reaches
 unfoldable pub least : ℕ → ℕ
 least n = pick (ltb n far) n far
 
--- the quill behind w bits, if they are in range
+-- the quill behind k octets, if they are in range
 unfoldable pub behind : ℕ → Bool → Quill → Quill
-behind w fine c = quill (pick (c .ok && fine) (least (c .at + w)) (c .at)) (c .room) (c .ok && fine)
+behind k fine c = quill (pick (c .ok && fine) (least (c .at + k)) (c .at)) (c .room) (c .ok && fine)
 
 -- from c to r: the output o becomes x if it is so, and stays otherwise
-pub record Put (w : ℕ) (fine : Bool) (c r : Quill) (x o o' : List ℕ) : Type 0 where
-  pub is : r ≡ behind w fine c
+pub record Put (k : ℕ) (fine : Bool) (c r : Quill) (x o o' : List ℕ) : Type 0 where
+  pub is : r ≡ behind k fine c
   pub out : o' ≡ pick (c .ok && fine) x o
 
 abbrev pub halted : Quill → Quill
@@ -55,15 +57,18 @@ penAt vs room b = record { left = vs; room = room; ok = true; out = b }
 unfoldable pub writes : List Component → Pen → Pen
 writes is p = puts levels is p
 
--- the values vs are in range and sound, and writing them leaves the components js of is to write: the output o becomes o', the quill c becomes r
+-- the values vs are in range and sound, and writing them, as the bits w of k octets, leaves the components js of is to write: the output o becomes o', the
+-- quill c becomes r
 pub record Goes (sound : Bool) (is js : List Component) (c r : Quill) (o o' : List ℕ) (vs : List Value) : Type 0 where
   pub holds : sound ≡ true
   pub came : c .ok ≡ true
   pub w : List ℕ
   pub small : Bits w
   pub so : (rest : List Value) (b : List ℕ) → writes is (penAt (vs ++ rest) (c .room) b) ≡ writes js (penAt rest (r .room) (b ++ w))
-  pub to : least (r .at) ≡ least (c .at + length w)
-  pub ink : Octets o → c .at + length w < far → c .at + length w ≤ 8 * length o → o' ≡ putBits o (c .at) w
+  pub k : ℕ
+  pub whole : length w ≡ 8 * k
+  pub to : least (r .at) ≡ least (c .at + k)
+  pub ink : Octets o → c .at + k < far → c .at + k ≤ length o → o' ≡ putBits o (8 * c .at) w
 
 -- a value of vs is out of range
 pub record Stops (is : List Component) (room : ℕ) (vs : List Value) : Type 0 where
@@ -91,3 +96,7 @@ pub record Few (n : ℕ) (r : Quill) : Type 0 where
 pub record Small (n bound r : ℕ) : Type 0 where
   pub low : r < bound
   pub is : n < bound → r ≡ n
+
+-- what holds of a choice that is laid out as choice j is
+pub record As (k j : ℕ) (P : Type 0) : Type 0 where
+  pub so : layoutOf k ≡ layoutOf j → P

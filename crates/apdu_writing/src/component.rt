@@ -19,7 +19,7 @@ use crate::quill::spend;
 pub(crate) fn number(n: u64, out: &mut [u8], c: Quill) -> Quill
     ensures { λ r. ⌜ Puts true (integer ∷ []) c r (now (out .entry)) (now (out .exit)) (num n ∷ []) ⌝ }
 {
-    put(out, 8, n, n < 128, c)
+    put(out, 1, n, n < 128, c)
 }
 
 // A number 0..127, if it is there.
@@ -36,11 +36,11 @@ pub(crate) fn number_if(p: bool, n: u64, out: &mut [u8], c: Quill) -> Quill
 pub(crate) fn string(lent: &[u8], start: usize, n: u64, out: &mut [u8], c: Quill) -> Quill
     ensures { λ r. ⌜ Puts (isInside (length (now (lent .entry))) start n) (stringForm ∷ []) c r (now (out .entry)) (now (out .exit)) (str (now (lent .entry)) start n) ⌝ }
 {
-    let length = put(out, 8, n, n < 128, c);
-    if 127 < n {
+    let length = put(out, 1, n, n < 128, c);
+    if !length.ok {
         return length;
     }
-    put_octets(lent, start, n as usize, out, length)
+    put_octets(lent, start, n as usize, true, out, length)
 }
 
 // An octet string, if it is there.

@@ -29,16 +29,19 @@ pub(crate) fn head(
     requires { ⌜ depth ≤ 5 ⌝ }
     ensures { λ r. ⌜ Opens (now (lent .entry)) depth k n start c r (now (out .entry)) (now (out .exit)) × Deep depth r ⌝ }
 {
-    let d = kind(depth, k, out, c);
     if k == apdu::OCTET_STRING {
+        let d = kind(depth, k, out, c);
         return string(lent, start, n, out, d);
     }
     if k == apdu::DSRC_EID {
+        let d = kind(depth, k, out, c);
         return number(n, out, d);
     }
     if k == apdu::ATTRIBUTE_ID_LIST {
+        let d = kind(depth, k, out, c);
         return ids(lent, start, n, out, d);
     }
+    let d = kind(depth, k, out, c);
     row_count(depth + 1, n, out, d)
 }
 

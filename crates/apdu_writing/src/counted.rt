@@ -18,14 +18,14 @@ use apdu::known;
 pub(crate) fn id_count(n: u64, out: &mut [u8], c: Quill) -> Quill
     ensures { λ r. ⌜ Moves true (idCount ∷ []) ((listStart ∷ []) ++ times n (integer ∷ [])) c r (now (out .entry)) (now (out .exit)) (num n ∷ []) × Few n r ⌝ }
 {
-    put(out, 8, n, n <= apdu::MOST_COUNTED, c)
+    put(out, 1, n, n <= apdu::MOST_COUNTED, c)
 }
 
 // A count of application entries.
 pub(crate) fn entry_count(n: u64, out: &mut [u8], c: Quill) -> Quill
     ensures { λ r. ⌜ Moves true (entryCount ∷ []) (times n (entry ∷ [])) c r (now (out .entry)) (now (out .exit)) (num n ∷ []) × Few n r ⌝ }
 {
-    put(out, 8, n, n <= apdu::MOST_COUNTED, c)
+    put(out, 1, n, n <= apdu::MOST_COUNTED, c)
 }
 
 // A count of attribute rows whose containers stand at the given depth.
@@ -34,7 +34,7 @@ pub(crate) fn row_count(depth: usize, n: u64, out: &mut [u8], c: Quill) -> Quill
 {
     let room = c.room as u64;
     let few = (n <= apdu::MOST_COUNTED) & (n <= room);
-    spend(n, put(out, 8, n, few, c))
+    spend(n, put(out, 1, n, few, c))
 }
 
 // The kind of a container at the given depth.
@@ -42,7 +42,7 @@ pub(crate) fn kind(depth: usize, k: u64, out: &mut [u8], c: Quill) -> Quill
     ensures { λ r. ⌜ Moves true (container depth ∷ []) (content depth k) c r (now (out .entry)) (now (out .exit)) (num k ∷ []) × Known depth k r ⌝ }
 {
     let fine = (depth <= apdu::DEEPEST) & known(k);
-    put(out, 8, k, fine, c)
+    put(out, 1, k, fine, c)
 }
 
 // Id `i` of the list that stands in `lent` from bit place `start` on.
@@ -52,7 +52,7 @@ fn id(lent: &[u8], start: usize, i: u64, out: &mut [u8], c: Quill) -> Quill
 {
     let first = start / 8;
     let n = bits::read_field(&lent[first..], start % 8 + 8 * (i as usize), 8);
-    put(out, 8, n, n < 128, c)
+    put(out, 1, n, n < 128, c)
 }
 
 // A list of n ids that stand in `lent` from bit place `start` on. Only the place goes from turn to turn: room stays, and a turn follows a good one.

@@ -54,7 +54,7 @@ fn application(
     ensures { λ r. ⌜ Puts (entrySound (length (now (lent .entry))) e (take (entryRows e) (drop first table))) (entry ∷ []) c r (now (out .entry)) (now (out .exit)) (entryValues (now (lent .entry)) e (take (entryRows e) (drop first table))) ⌝ }
 {
     let v = 128 * bit(e.has_eid) + 64 * bit(e.has_parameter) + small(e.aid as u64, 32);
-    let d = put(out, 8, v, e.aid < 32, c);
+    let d = put(out, 1, v, e.aid < 32, c);
     let f = number_if(e.has_eid, e.eid as u64, out, d);
     parameter(
         e.has_parameter,

@@ -1,13 +1,13 @@
-// The messages behind their choice, one function for each kind of record.
+// The messages, one function for each kind of record: the choice and the bits after it are one octet.
 ghost use mathlib.Core.Path.{_≡_};
 ghost use mathlib.Core.Bool.{true};
 ghost use mathlib.Core.List.{[], _∷_};
 ghost use Prim.Native.Nat.{_<_, _≤_};
 ghost use lib.ListN.{length};
-ghost use Rattle.apdu_format.specs.Component.{lead, choice};
+ghost use Rattle.apdu_format.specs.Component.{choice};
 ghost use Rattle.apdu_format.specs.Reading.{fields};
 ghost use Rattle.apdu.specs.Values.{bitOf, responseValues, requestValues, actionResponseValues, setRequestValues, getRequestValues, getResponseValues};
-ghost use Rattle.apdu_writing.specs.Quill.{Moves, Puts, Small};
+ghost use Rattle.apdu_writing.specs.Quill.{Puts, Small, As};
 ghost use Rattle.apdu.specs.Sound.{requestSound, actionResponseSound, setRequestSound, getRequestSound, getResponseSound};
 use crate::component::number;
 use crate::component::number_if;
@@ -26,14 +26,6 @@ use apdu::Response;
 use apdu::Row;
 use apdu::SetRequest;
 
-// The four bits that begin a message.
-pub(crate) fn choice(k: u64, out: &mut [u8], c: Quill) -> Quill
-    requires { ⌜ k < 10 ⌝ }
-    ensures { λ r. ⌜ Moves true (choice ∷ []) (lead k ∷ []) c r (now (out .entry)) (now (out .exit)) (fields (k ∷ []) ∷ []) ⌝ }
-{
-    put(out, 4, k, true, c)
-}
-
 pub(crate) fn bit(p: bool) -> u64
     ensures { λ r. ⌜ (r ≡ bitOf p) × (r ≤ 1) ⌝ }
 {
@@ -49,25 +41,35 @@ pub(crate) fn small(n: u64, bound: u64) -> u64
 }
 
 // Event or set response.
-pub(crate) fn response(m: Response, out: &mut [u8], c: Quill) -> Quill
-    ensures { λ r. ⌜ Puts true (lead 3 ∷ []) c r (now (out .entry)) (now (out .exit)) (responseValues m) × Puts true (lead 5 ∷ []) c r (now (out .entry)) (now (out .exit)) (responseValues m) ⌝ }
+pub(crate) fn response(k: u64, m: Response, out: &mut [u8], c: Quill) -> Quill
+    requires { ⌜ k < 10 ⌝ }
+    ensures { λ r. ⌜ As k 3 (Puts true (choice ∷ []) c r (now (out .entry)) (now (out .exit)) (fields (k ∷ []) ∷ responseValues m)) ⌝ }
 {
-    let v = 8 * bit(m.has_iid) + 4 * bit(m.has_ret) + small(m.fill, 4);
-    let d = put(out, 4, v, m.fill < 4, c);
+    let v = 16 * k + 8 * bit(m.has_iid) + 4 * bit(m.has_ret) + small(m.fill, 4);
+    let d = put(out, 1, v, m.fill < 4, c);
     let e = number(m.eid, out, d);
     let f = number_if(m.has_iid, m.iid, out, e);
     number_if(m.has_ret, m.ret, out, f)
 }
 
 // Action or event request.
-pub(crate) fn request(lent: &[u8], m: Request, table: [Row; 32], out: &mut [u8], c: Quill) -> Quill
-    ensures { λ r. ⌜ Puts (requestSound (length (now (lent .entry))) m table) (lead 0 ∷ []) c r (now (out .entry)) (now (out .exit)) (requestValues (now (lent .entry)) m table) × Puts (requestSound (length (now (lent .entry))) m table) (lead 2 ∷ []) c r (now (out .entry)) (now (out .exit)) (requestValues (now (lent .entry)) m table) ⌝ }
+pub(crate) fn request(
+    k: u64,
+    lent: &[u8],
+    m: Request,
+    table: [Row; 32],
+    out: &mut [u8],
+    c: Quill,
+) -> Quill
+    requires { ⌜ k < 10 ⌝ }
+    ensures { λ r. ⌜ As k 0 (Puts (requestSound (length (now (lent .entry))) m table) (choice ∷ []) c r (now (out .entry)) (now (out .exit)) (fields (k ∷ []) ∷ requestValues (now (lent .entry)) m table)) ⌝ }
 {
-    let v = 8 * bit(m.has_credentials)
+    let v = 16 * k
+        + 8 * bit(m.has_credentials)
         + 4 * bit(m.has_parameter)
         + 2 * bit(m.has_iid)
         + bit(m.mode);
-    let d = put(out, 4, v, true, c);
+    let d = put(out, 1, v, true, c);
     let e = number(m.eid, out, d);
     let f = number(m.service, out, e);
     let g = string_if(
@@ -99,10 +101,14 @@ pub(crate) fn action_response(
     out: &mut [u8],
     c: Quill,
 ) -> Quill
-    ensures { λ r. ⌜ Puts (actionResponseSound (length (now (lent .entry))) m table) (lead 1 ∷ []) c r (now (out .entry)) (now (out .exit)) (actionResponseValues (now (lent .entry)) m table) ⌝ }
+    ensures { λ r. ⌜ Puts (actionResponseSound (length (now (lent .entry))) m table) (choice ∷ []) c r (now (out .entry)) (now (out .exit)) (fields (1 ∷ []) ∷ actionResponseValues (now (lent .entry)) m table) ⌝ }
 {
-    let v = 8 * bit(m.has_iid) + 4 * bit(m.has_parameter) + 2 * bit(m.has_ret) + small(m.fill, 2);
-    let d = put(out, 4, v, m.fill < 2, c);
+    let v = 16 * 1
+        + 8 * bit(m.has_iid)
+        + 4 * bit(m.has_parameter)
+        + 2 * bit(m.has_ret)
+        + small(m.fill, 2);
+    let d = put(out, 1, v, m.fill < 2, c);
     let e = number(m.eid, out, d);
     let f = number_if(m.has_iid, m.iid, out, e);
     let g = boxed_if(
@@ -126,10 +132,14 @@ pub(crate) fn set_request(
     out: &mut [u8],
     c: Quill,
 ) -> Quill
-    ensures { λ r. ⌜ Puts (setRequestSound (length (now (lent .entry))) m table) (lead 4 ∷ []) c r (now (out .entry)) (now (out .exit)) (setRequestValues (now (lent .entry)) m table) ⌝ }
+    ensures { λ r. ⌜ Puts (setRequestSound (length (now (lent .entry))) m table) (choice ∷ []) c r (now (out .entry)) (now (out .exit)) (fields (4 ∷ []) ∷ setRequestValues (now (lent .entry)) m table) ⌝ }
 {
-    let v = 8 * bit(m.has_credentials) + 4 * bit(m.has_iid) + 2 * small(m.fill, 2) + bit(m.mode);
-    let d = put(out, 4, v, m.fill < 2, c);
+    let v = 16 * 4
+        + 8 * bit(m.has_credentials)
+        + 4 * bit(m.has_iid)
+        + 2 * small(m.fill, 2)
+        + bit(m.mode);
+    let d = put(out, 1, v, m.fill < 2, c);
     let e = number(m.eid, out, d);
     let f = string_if(
         m.has_credentials,
@@ -144,10 +154,14 @@ pub(crate) fn set_request(
 }
 
 pub(crate) fn get_request(lent: &[u8], m: GetRequest, out: &mut [u8], c: Quill) -> Quill
-    ensures { λ r. ⌜ Puts (getRequestSound (length (now (lent .entry))) m) (lead 6 ∷ []) c r (now (out .entry)) (now (out .exit)) (getRequestValues (now (lent .entry)) m) ⌝ }
+    ensures { λ r. ⌜ Puts (getRequestSound (length (now (lent .entry))) m) (choice ∷ []) c r (now (out .entry)) (now (out .exit)) (fields (6 ∷ []) ∷ getRequestValues (now (lent .entry)) m) ⌝ }
 {
-    let v = 8 * bit(m.has_credentials) + 4 * bit(m.has_iid) + 2 * bit(m.has_ids) + small(m.fill, 2);
-    let d = put(out, 4, v, m.fill < 2, c);
+    let v = 16 * 6
+        + 8 * bit(m.has_credentials)
+        + 4 * bit(m.has_iid)
+        + 2 * bit(m.has_ids)
+        + small(m.fill, 2);
+    let d = put(out, 1, v, m.fill < 2, c);
     let e = number(m.eid, out, d);
     let f = string_if(
         m.has_credentials,
@@ -168,10 +182,14 @@ pub(crate) fn get_response(
     out: &mut [u8],
     c: Quill,
 ) -> Quill
-    ensures { λ r. ⌜ Puts (getResponseSound (length (now (lent .entry))) m table) (lead 7 ∷ []) c r (now (out .entry)) (now (out .exit)) (getResponseValues (now (lent .entry)) m table) ⌝ }
+    ensures { λ r. ⌜ Puts (getResponseSound (length (now (lent .entry))) m table) (choice ∷ []) c r (now (out .entry)) (now (out .exit)) (fields (7 ∷ []) ∷ getResponseValues (now (lent .entry)) m table) ⌝ }
 {
-    let v = 8 * bit(m.has_iid) + 4 * bit(m.has_attributes) + 2 * bit(m.has_ret) + small(m.fill, 2);
-    let d = put(out, 4, v, m.fill < 2, c);
+    let v = 16 * 7
+        + 8 * bit(m.has_iid)
+        + 4 * bit(m.has_attributes)
+        + 2 * bit(m.has_ret)
+        + small(m.fill, 2);
+    let d = put(out, 1, v, m.fill < 2, c);
     let e = number(m.eid, out, d);
     let f = number_if(m.has_iid, m.iid, out, e);
     let g = attributes_if(m.has_attributes, lent, table, m.rows, m.count, out, f);

@@ -4,7 +4,7 @@ ghost use mathlib.Core.Bool.{true};
 ghost use mathlib.Core.List.{[], _∷_};
 ghost use Prim.Native.Nat.{_<_, _≤_};
 ghost use lib.ListN.{length, take, drop};
-ghost use Rattle.apdu_format.specs.Component.{lead, fixed, class, entryCount};
+ghost use Rattle.apdu_format.specs.Component.{choice, fixed, class, entryCount};
 ghost use Rattle.apdu_format.specs.Rules.{when};
 ghost use Rattle.apdu_format.specs.Reading.{fields};
 ghost use Rattle.apdu.specs.Values.{bitOf, num, if, entriesValues, bstValues, vstValues};
@@ -26,7 +26,7 @@ use apdu::Vst;
 fn word(n: u64, out: &mut [u8], c: Quill) -> Quill
     ensures { λ r. ⌜ Puts true (fixed 2 ∷ []) c r (now (out .entry)) (now (out .exit)) (fields (n ∷ []) ∷ []) ⌝ }
 {
-    put(out, 16, n, n < 65536, c)
+    put(out, 2, n, n < 65536, c)
 }
 
 fn word_if(p: bool, n: u64, out: &mut [u8], c: Quill) -> Quill
@@ -42,7 +42,7 @@ fn word_if(p: bool, n: u64, out: &mut [u8], c: Quill) -> Quill
 fn time(n: u64, out: &mut [u8], c: Quill) -> Quill
     ensures { λ r. ⌜ Puts true (fixed 4 ∷ []) c r (now (out .entry)) (now (out .exit)) (fields (n ∷ []) ∷ []) ⌝ }
 {
-    put(out, 32, n, n < 4294967296, c)
+    put(out, 4, n, n < 4294967296, c)
 }
 
 // A configuration: class, maker, and the status if it is there.
@@ -50,7 +50,7 @@ fn configuration(kind: u64, maker: u64, p: bool, status: u64, out: &mut [u8], c:
     ensures { λ r. ⌜ Puts true (class ∷ []) c r (now (out .entry)) (now (out .exit)) (fields (bitOf p ∷ kind ∷ []) ∷ fields (maker ∷ []) ∷ if p (fields (status ∷ []) ∷ [])) ⌝ }
 {
     let v = 32768 * bit(p) + small(kind, 32768);
-    let d = put(out, 16, v, kind < 32768, c);
+    let d = put(out, 2, v, kind < 32768, c);
     let e = word(maker, out, d);
     word_if(p, status, out, e)
 }
@@ -86,13 +86,14 @@ pub(crate) fn bst(
     out: &mut [u8],
     c: Quill,
 ) -> Quill
-    ensures { λ r. ⌜ Puts (bstSound (length (now (lent .entry))) m list table) (lead 8 ∷ []) c r (now (out .entry)) (now (out .exit)) (bstValues (now (lent .entry)) m list table) ⌝ }
+    ensures { λ r. ⌜ Puts (bstSound (length (now (lent .entry))) m list table) (choice ∷ []) c r (now (out .entry)) (now (out .exit)) (fields (8 ∷ []) ∷ bstValues (now (lent .entry)) m list table) ⌝ }
 {
-    let v = 8796093022208 * bit(m.has_others)
+    let v = 17592186044416 * 8
+        + 8796093022208 * bit(m.has_others)
         + 134217728 * small(m.manufacturer, 65536)
         + small(m.individual, 134217728);
     let fine = (m.manufacturer < 65536) & (m.individual < 134217728);
-    let d = put(out, 44, v, fine, c);
+    let d = put(out, 6, v, fine, c);
     let e = time(m.time, out, d);
     let f = number(m.profile, out, e);
     let t = applications(lent, list, 0, m.mandatory, table, 0, out, f);
@@ -123,9 +124,9 @@ pub(crate) fn vst(
     out: &mut [u8],
     c: Quill,
 ) -> Quill
-    ensures { λ r. ⌜ Puts (vstSound (length (now (lent .entry))) m list table) (lead 9 ∷ []) c r (now (out .entry)) (now (out .exit)) (vstValues (now (lent .entry)) m list table) ⌝ }
+    ensures { λ r. ⌜ Puts (vstSound (length (now (lent .entry))) m list table) (choice ∷ []) c r (now (out .entry)) (now (out .exit)) (fields (9 ∷ []) ∷ vstValues (now (lent .entry)) m list table) ⌝ }
 {
-    let d = put(out, 4, m.fill, m.fill < 16, c);
+    let d = put(out, 1, 16 * 9 + small(m.fill, 16), m.fill < 16, c);
     let e = number(m.profile, out, d);
     let t = applications(lent, list, 0, m.applications, table, 0, out, e);
     let f = t.quill;

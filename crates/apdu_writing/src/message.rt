@@ -7,7 +7,6 @@ ghost use Rattle.apdu.specs.Values.{valuesOf};
 ghost use Rattle.apdu_writing.specs.Quill.{Puts};
 ghost use Rattle.apdu.specs.Sound.{sound};
 use crate::kinds::action_response;
-use crate::kinds::choice;
 use crate::kinds::get_request;
 use crate::kinds::get_response;
 use crate::kinds::request;
@@ -32,45 +31,15 @@ pub(crate) fn put_message(
     ensures { λ r. ⌜ Puts (sound (length (now (lent .entry))) m list table) (choice ∷ []) c r (now (out .entry)) (now (out .exit)) (valuesOf (now (lent .entry)) m list table) ⌝ }
 {
     match m {
-        Message::ActionRequest(x) => {
-            let d = choice(0, out, c);
-            request(lent, x, table, out, d)
-        }
-        Message::ActionResponse(x) => {
-            let d = choice(1, out, c);
-            action_response(lent, x, table, out, d)
-        }
-        Message::EventRequest(x) => {
-            let d = choice(2, out, c);
-            request(lent, x, table, out, d)
-        }
-        Message::EventResponse(x) => {
-            let d = choice(3, out, c);
-            response(x, out, d)
-        }
-        Message::SetRequest(x) => {
-            let d = choice(4, out, c);
-            set_request(lent, x, table, out, d)
-        }
-        Message::SetResponse(x) => {
-            let d = choice(5, out, c);
-            response(x, out, d)
-        }
-        Message::GetRequest(x) => {
-            let d = choice(6, out, c);
-            get_request(lent, x, out, d)
-        }
-        Message::GetResponse(x) => {
-            let d = choice(7, out, c);
-            get_response(lent, x, table, out, d)
-        }
-        Message::Bst(x) => {
-            let d = choice(8, out, c);
-            bst(lent, x, list, table, out, d)
-        }
-        Message::Vst(x) => {
-            let d = choice(9, out, c);
-            vst(lent, x, list, table, out, d)
-        }
+        Message::ActionRequest(x) => request(0, lent, x, table, out, c),
+        Message::ActionResponse(x) => action_response(lent, x, table, out, c),
+        Message::EventRequest(x) => request(2, lent, x, table, out, c),
+        Message::EventResponse(x) => response(3, x, out, c),
+        Message::SetRequest(x) => set_request(lent, x, table, out, c),
+        Message::SetResponse(x) => response(5, x, out, c),
+        Message::GetRequest(x) => get_request(lent, x, out, c),
+        Message::GetResponse(x) => get_response(lent, x, table, out, c),
+        Message::Bst(x) => bst(lent, x, list, table, out, c),
+        Message::Vst(x) => vst(lent, x, list, table, out, c),
     }
 }

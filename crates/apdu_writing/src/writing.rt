@@ -64,7 +64,7 @@ pub fn write(
     if !end.ok {
         return ApduWritten::RecordOutOfRange;
     }
-    let octets = end.at as usize / 8;
+    let octets = end.at as usize;
     if apdu::LONGEST_MESSAGE < octets {
         return ApduWritten::MessageTooLong(apdu::LONGEST_MESSAGE);
     }

@@ -1,4 +1,4 @@
--- The leading part and then the components, one after the other.
+-- The choice with the leading part, and then the components, one after the other.
 -- Assumes nothing.
 use mathlib.Core.Path.{_∙_}
 use Rattle.apdu_writing.proofs.Messages.{request-by}
@@ -6,14 +6,11 @@ use borrow.Author.Needs.{needs}
 use Rattle.apdu_writing.proofs.kinds.request.Statement.{statement}
 use Rattle.apdu_writing.proofs.kinds.request.Tie as tie
 
-bit-requires : tie.Need-bit-requires
-bit-requires c κs = search needs
-
 mul-v : tie.Need-mul-v
 mul-v c = search needs
 
-bit-requires-2 : tie.Need-bit-requires-2
-bit-requires-2 c κs = search needs
+bit-requires : tie.Need-bit-requires
+bit-requires c κs = search needs
 
 mul-v-2 : tie.Need-mul-v-2
 mul-v-2 c = search needs
@@ -21,8 +18,8 @@ mul-v-2 c = search needs
 add-v : tie.Need-add-v
 add-v c = search needs
 
-bit-requires-3 : tie.Need-bit-requires-3
-bit-requires-3 c κs = search needs
+bit-requires-2 : tie.Need-bit-requires-2
+bit-requires-2 c κs = search needs
 
 mul-v-3 : tie.Need-mul-v-3
 mul-v-3 c = search needs
@@ -30,11 +27,20 @@ mul-v-3 c = search needs
 add-v-2 : tie.Need-add-v-2
 add-v-2 c = search needs
 
-bit-requires-4 : tie.Need-bit-requires-4
-bit-requires-4 c κs = search needs
+bit-requires-3 : tie.Need-bit-requires-3
+bit-requires-3 c κs = search needs
+
+mul-v-4 : tie.Need-mul-v-4
+mul-v-4 c = search needs
 
 add-v-3 : tie.Need-add-v-3
 add-v-3 c = search needs
+
+bit-requires-4 : tie.Need-bit-requires-4
+bit-requires-4 c κs = search needs
+
+add-v-4 : tie.Need-add-v-4
+add-v-4 c = search needs
 
 put-requires : tie.Need-put-requires
 put-requires c κs = search needs
@@ -58,22 +64,24 @@ same-length : tie.Need-same-length
 same-length c = c .before .before .number-if .kept .1 .1 .0 ∙ c .before .before .before .before .before .before .boxed-if .kept .1 .1 .1 .1 .1 .1 .1 .0 ∙ c .before .before .before .before .before .before .before .before .before .before .string-if .kept .1 .1 .1 .1 .0 ∙ c .before .before .before .before .before .before .before .before .before .before .before .before .before .before .number2 .kept .1 .0 ∙ c .before .before .before .before .before .before .before .before .before .before .before .before .before .before .before .before .before .before .number .kept .1 .0 ∙ c .before .before .before .before .before .before .before .before .before .before .before .before .before .before .before .before .before .before .before .before .before .before .put .kept .0
 
 returns : tie.Need-returns
-returns c = request-by _ _ _ (c .before .before .before .before .before .before .before .before .before .before .before .before .before .before .before .before .before .before .before .before .before .before .before .before .before .before .before .bit .ensures .0) (c .before .before .before .before .before .before .before .before .before .before .before .before .before .before .before .before .before .before .before .before .before .before .before .before .before .before .bit2 .ensures .0) (c .before .before .before .before .before .before .before .before .before .before .before .before .before .before .before .before .before .before .before .before .before .before .before .before .before .bit3 .ensures .0) (c .before .before .before .before .before .before .before .before .before .before .before .before .before .before .before .before .before .before .before .before .before .before .before .before .bit4 .ensures .0) (c .before .before .before .before .before .before .before .before .before .before .before .before .before .before .before .before .before .before .before .before .before .before .put .ensures) (c .before .before .before .before .before .before .before .before .before .before .before .before .before .before .before .before .before .before .number .ensures) (c .before .before .before .before .before .before .before .before .before .before .before .before .before .before .number2 .ensures) (c .before .before .before .before .before .before .before .before .before .before .string-if .ensures) (c .before .before .before .before .before .before .boxed-if .ensures) (c .before .before .number-if .ensures)
+returns c = request-by _ _ _ _ (c .before .before .before .before .before .before .before .before .before .before .before .before .before .before .before .before .before .before .before .before .before .before .before .before .before .before .before .before .before .before .pre) (c .before .before .before .before .before .before .before .before .before .before .before .before .before .before .before .before .before .before .before .before .before .before .before .before .before .before .before .bit .ensures .0) (c .before .before .before .before .before .before .before .before .before .before .before .before .before .before .before .before .before .before .before .before .before .before .before .before .before .before .bit2 .ensures .0) (c .before .before .before .before .before .before .before .before .before .before .before .before .before .before .before .before .before .before .before .before .before .before .before .before .before .bit3 .ensures .0) (c .before .before .before .before .before .before .before .before .before .before .before .before .before .before .before .before .before .before .before .before .before .before .before .before .bit4 .ensures .0) (c .before .before .before .before .before .before .before .before .before .before .before .before .before .before .before .before .before .before .before .before .before .before .put .ensures) (c .before .before .before .before .before .before .before .before .before .before .before .before .before .before .before .before .before .before .number .ensures) (c .before .before .before .before .before .before .before .before .before .before .before .before .before .before .number2 .ensures) (c .before .before .before .before .before .before .before .before .before .before .string-if .ensures) (c .before .before .before .before .before .before .boxed-if .ensures) (c .before .before .number-if .ensures)
 
 pub request-spec : {M : Type 1} → statement M
 request-spec =
     tie.close
     (tie.spec
-    bit-requires
     mul-v
-    bit-requires-2
+    bit-requires
     mul-v-2
     add-v
-    bit-requires-3
+    bit-requires-2
     mul-v-3
     add-v-2
-    bit-requires-4
+    bit-requires-3
+    mul-v-4
     add-v-3
+    bit-requires-4
+    add-v-4
     put-requires
     number-requires
     number-requires-2

@@ -1,18 +1,15 @@
--- A response is its leading part and then its numbers.
+-- The choice with the leading part, and then the components, one after the other.
 -- Assumes nothing.
 use Rattle.apdu_writing.proofs.Leads.{response-by}
 use borrow.Author.Needs.{needs}
 use Rattle.apdu_writing.proofs.kinds.response.Statement.{statement}
 use Rattle.apdu_writing.proofs.kinds.response.Tie as tie
 
-bit-requires : tie.Need-bit-requires
-bit-requires c κs = search needs
-
 mul-v : tie.Need-mul-v
 mul-v c = search needs
 
-bit-requires-2 : tie.Need-bit-requires-2
-bit-requires-2 c κs = search needs
+bit-requires : tie.Need-bit-requires
+bit-requires c κs = search needs
 
 mul-v-2 : tie.Need-mul-v-2
 mul-v-2 c = search needs
@@ -20,11 +17,20 @@ mul-v-2 c = search needs
 add-v : tie.Need-add-v
 add-v c = search needs
 
-small-requires : tie.Need-small-requires
-small-requires c κs = search needs
+bit-requires-2 : tie.Need-bit-requires-2
+bit-requires-2 c κs = search needs
+
+mul-v-3 : tie.Need-mul-v-3
+mul-v-3 c = search needs
 
 add-v-2 : tie.Need-add-v-2
 add-v-2 c = search needs
+
+small-requires : tie.Need-small-requires
+small-requires c κs = search needs
+
+add-v-3 : tie.Need-add-v-3
+add-v-3 c = search needs
 
 put-requires : tie.Need-put-requires
 put-requires c κs = search needs
@@ -42,19 +48,21 @@ same-length : tie.Need-same-length
 same-length c = search needs
 
 returns : tie.Need-returns
-returns c = response-by _ (c .before .before .before .before .before .before .before .before .before .before .before .before .before .before .before .before .before .before .before .bit .ensures .0) (c .before .before .before .before .before .before .before .before .before .before .before .before .before .before .before .before .before .before .bit2 .ensures .0) (c .before .before .before .before .before .before .before .before .before .before .before .before .before .before .before .before .before .small .ensures) (c .before .before .before .before .before .before .before .before .before .before .before .before .before .before .put .ensures) (c .before .before .before .before .before .before .before .before .before .before .number .ensures) (c .before .before .before .before .before .before .number-if .ensures) (c .before .before .number-if2 .ensures)
+returns c = response-by _ _ (c .before .before .before .before .before .before .before .before .before .before .before .before .before .before .before .before .before .before .before .before .before .pre) (c .before .before .before .before .before .before .before .before .before .before .before .before .before .before .before .before .before .before .before .bit .ensures .0) (c .before .before .before .before .before .before .before .before .before .before .before .before .before .before .before .before .before .before .bit2 .ensures .0) (c .before .before .before .before .before .before .before .before .before .before .before .before .before .before .before .before .before .small .ensures) (c .before .before .before .before .before .before .before .before .before .before .before .before .before .before .put .ensures) (c .before .before .before .before .before .before .before .before .before .before .number .ensures) (c .before .before .before .before .before .before .number-if .ensures) (c .before .before .number-if2 .ensures)
 
 pub response-spec : {M : Type 1} → statement M
 response-spec =
     tie.close
     (tie.spec
-    bit-requires
     mul-v
-    bit-requires-2
+    bit-requires
     mul-v-2
     add-v
-    small-requires
+    bit-requires-2
+    mul-v-3
     add-v-2
+    small-requires
+    add-v-3
     put-requires
     number-requires
     number-if-requires

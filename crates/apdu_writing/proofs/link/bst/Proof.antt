@@ -8,14 +8,11 @@ use borrow.Author.Needs.{needs}
 use Rattle.apdu_writing.proofs.link.bst.Statement.{statement}
 use Rattle.apdu_writing.proofs.link.bst.Tie as tie
 
-bit-requires : tie.Need-bit-requires
-bit-requires c κs = search needs
-
 mul-v : tie.Need-mul-v
 mul-v c = search needs
 
-small-requires : tie.Need-small-requires
-small-requires c κs = search needs
+bit-requires : tie.Need-bit-requires
+bit-requires c κs = search needs
 
 mul-v-2 : tie.Need-mul-v-2
 mul-v-2 c = search needs
@@ -23,11 +20,20 @@ mul-v-2 c = search needs
 add-v : tie.Need-add-v
 add-v c = search needs
 
-small-requires-2 : tie.Need-small-requires-2
-small-requires-2 c κs = search needs
+small-requires : tie.Need-small-requires
+small-requires c κs = search needs
+
+mul-v-3 : tie.Need-mul-v-3
+mul-v-3 c = search needs
 
 add-v-2 : tie.Need-add-v-2
 add-v-2 c = search needs
+
+small-requires-2 : tie.Need-small-requires-2
+small-requires-2 c κs = search needs
+
+add-v-3 : tie.Need-add-v-3
+add-v-3 c = search needs
 
 put-requires : tie.Need-put-requires
 put-requires c κs = search needs
@@ -63,13 +69,15 @@ pub bst-spec : {M : Type 1} → statement M
 bst-spec =
     tie.close
     (tie.spec
-    bit-requires
     mul-v
-    small-requires
+    bit-requires
     mul-v-2
     add-v
-    small-requires-2
+    small-requires
+    mul-v-3
     add-v-2
+    small-requires-2
+    add-v-3
     put-requires
     time-requires
     number-requires

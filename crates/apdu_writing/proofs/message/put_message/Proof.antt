@@ -1,4 +1,4 @@
--- Each kind is its choice and then the rest.
+-- Each kind is put by its function.
 -- Assumes nothing.
 use Rattle.apdu_writing.proofs.AnyKind.{put-0, put-1, put-2, put-3, put-4, put-5, put-6, put-7, put-8, put-9}
 use borrow.Author.Needs.{needs}
@@ -8,17 +8,11 @@ use Rattle.apdu_writing.proofs.message.put_message.Tie as tie
 enum-known-m : tie.Need-enum-known-m
 enum-known-m c = search needs
 
-choice-requires : tie.Need-choice-requires
-choice-requires c κs = search needs
-
 request-requires : tie.Need-request-requires
 request-requires c κs = search needs
 
 enum-known-m-2 : tie.Need-enum-known-m-2
 enum-known-m-2 c = search needs
-
-choice-requires-2 : tie.Need-choice-requires-2
-choice-requires-2 c κs = search needs
 
 action-response-requires : tie.Need-action-response-requires
 action-response-requires c κs = search needs
@@ -26,17 +20,11 @@ action-response-requires c κs = search needs
 enum-known-m-3 : tie.Need-enum-known-m-3
 enum-known-m-3 c = search needs
 
-choice-requires-3 : tie.Need-choice-requires-3
-choice-requires-3 c κs = search needs
-
 request-requires-2 : tie.Need-request-requires-2
 request-requires-2 c κs = search needs
 
 enum-known-m-4 : tie.Need-enum-known-m-4
 enum-known-m-4 c = search needs
-
-choice-requires-4 : tie.Need-choice-requires-4
-choice-requires-4 c κs = search needs
 
 response-requires : tie.Need-response-requires
 response-requires c κs = search needs
@@ -44,17 +32,11 @@ response-requires c κs = search needs
 enum-known-m-5 : tie.Need-enum-known-m-5
 enum-known-m-5 c = search needs
 
-choice-requires-5 : tie.Need-choice-requires-5
-choice-requires-5 c κs = search needs
-
 set-request-requires : tie.Need-set-request-requires
 set-request-requires c κs = search needs
 
 enum-known-m-6 : tie.Need-enum-known-m-6
 enum-known-m-6 c = search needs
-
-choice-requires-6 : tie.Need-choice-requires-6
-choice-requires-6 c κs = search needs
 
 response-requires-2 : tie.Need-response-requires-2
 response-requires-2 c κs = search needs
@@ -62,17 +44,11 @@ response-requires-2 c κs = search needs
 enum-known-m-7 : tie.Need-enum-known-m-7
 enum-known-m-7 c = search needs
 
-choice-requires-7 : tie.Need-choice-requires-7
-choice-requires-7 c κs = search needs
-
 get-request-requires : tie.Need-get-request-requires
 get-request-requires c κs = search needs
 
 enum-known-m-8 : tie.Need-enum-known-m-8
 enum-known-m-8 c = search needs
-
-choice-requires-8 : tie.Need-choice-requires-8
-choice-requires-8 c κs = search needs
 
 get-response-requires : tie.Need-get-response-requires
 get-response-requires c κs = search needs
@@ -80,17 +56,11 @@ get-response-requires c κs = search needs
 enum-known-m-9 : tie.Need-enum-known-m-9
 enum-known-m-9 c = search needs
 
-choice-requires-9 : tie.Need-choice-requires-9
-choice-requires-9 c κs = search needs
-
 bst-requires : tie.Need-bst-requires
 bst-requires c κs = search needs
 
 enum-known-m-10 : tie.Need-enum-known-m-10
 enum-known-m-10 c = search needs
-
-choice-requires-10 : tie.Need-choice-requires-10
-choice-requires-10 c κs = search needs
 
 vst-requires : tie.Need-vst-requires
 vst-requires c κs = search needs
@@ -99,95 +69,85 @@ same-length : tie.Need-same-length
 same-length c = search needs
 
 returns : tie.Need-returns
-returns c = put-0 _ _ _ _ (c .before .before .before .before .before .before .before .before .before .m .given .1) (c .before .before .before .before .before .before .choice .ensures) (c .before .before .request .ensures .0)
+returns c = put-0 _ _ _ _ (c .before .before .before .before .before .m .given .1) (c .before .before .request .ensures)
 
 same-length-2 : tie.Need-same-length-2
 same-length-2 c = search needs
 
 returns-2 : tie.Need-returns-2
-returns-2 c = put-1 _ _ _ _ (c .before .before .before .before .before .before .before .before .before .m2 .given .1) (c .before .before .before .before .before .before .choice2 .ensures) (c .before .before .action-response .ensures)
+returns-2 c = put-1 _ _ _ _ (c .before .before .before .before .before .m2 .given .1) (c .before .before .action-response .ensures)
 
 same-length-3 : tie.Need-same-length-3
 same-length-3 c = search needs
 
 returns-3 : tie.Need-returns-3
-returns-3 c = put-2 _ _ _ _ (c .before .before .before .before .before .before .before .before .before .m3 .given .1) (c .before .before .before .before .before .before .choice3 .ensures) (c .before .before .request2 .ensures .1)
+returns-3 c = put-2 _ _ _ _ (c .before .before .before .before .before .m3 .given .1) (c .before .before .request2 .ensures)
 
 same-length-4 : tie.Need-same-length-4
 same-length-4 c = search needs
 
 returns-4 : tie.Need-returns-4
-returns-4 c = put-3 _ _ _ _ (c .before .before .before .before .before .before .before .before .before .m4 .given .1) (c .before .before .before .before .before .before .choice4 .ensures) (c .before .before .response .ensures .0)
+returns-4 c = put-3 _ _ _ _ (c .before .before .before .before .before .m4 .given .1) (c .before .before .response .ensures)
 
 same-length-5 : tie.Need-same-length-5
 same-length-5 c = search needs
 
 returns-5 : tie.Need-returns-5
-returns-5 c = put-4 _ _ _ _ (c .before .before .before .before .before .before .before .before .before .m5 .given .1) (c .before .before .before .before .before .before .choice5 .ensures) (c .before .before .set-request .ensures)
+returns-5 c = put-4 _ _ _ _ (c .before .before .before .before .before .m5 .given .1) (c .before .before .set-request .ensures)
 
 same-length-6 : tie.Need-same-length-6
 same-length-6 c = search needs
 
 returns-6 : tie.Need-returns-6
-returns-6 c = put-5 _ _ _ _ (c .before .before .before .before .before .before .before .before .before .m6 .given .1) (c .before .before .before .before .before .before .choice6 .ensures) (c .before .before .response2 .ensures .1)
+returns-6 c = put-5 _ _ _ _ (c .before .before .before .before .before .m6 .given .1) (c .before .before .response2 .ensures)
 
 same-length-7 : tie.Need-same-length-7
 same-length-7 c = search needs
 
 returns-7 : tie.Need-returns-7
-returns-7 c = put-6 _ _ _ _ (c .before .before .before .before .before .before .before .before .before .m7 .given .1) (c .before .before .before .before .before .before .choice7 .ensures) (c .before .before .get-request .ensures)
+returns-7 c = put-6 _ _ _ _ (c .before .before .before .before .before .m7 .given .1) (c .before .before .get-request .ensures)
 
 same-length-8 : tie.Need-same-length-8
 same-length-8 c = search needs
 
 returns-8 : tie.Need-returns-8
-returns-8 c = put-7 _ _ _ _ (c .before .before .before .before .before .before .before .before .before .m8 .given .1) (c .before .before .before .before .before .before .choice8 .ensures) (c .before .before .get-response .ensures)
+returns-8 c = put-7 _ _ _ _ (c .before .before .before .before .before .m8 .given .1) (c .before .before .get-response .ensures)
 
 same-length-9 : tie.Need-same-length-9
 same-length-9 c = search needs
 
 returns-9 : tie.Need-returns-9
-returns-9 c = put-8 _ _ _ _ (c .before .before .before .before .before .before .before .before .before .m9 .given .1) (c .before .before .before .before .before .before .choice9 .ensures) (c .before .before .bst .ensures)
+returns-9 c = put-8 _ _ _ _ (c .before .before .before .before .before .m9 .given .1) (c .before .before .bst .ensures)
 
 same-length-10 : tie.Need-same-length-10
 same-length-10 c = search needs
 
 returns-10 : tie.Need-returns-10
-returns-10 c = put-9 _ _ _ _ (c .before .before .before .before .before .before .before .before .before .m10 .given .1) (c .before .before .before .before .before .before .choice10 .ensures) (c .before .before .vst .ensures)
+returns-10 c = put-9 _ _ _ _ (c .before .before .before .before .before .m10 .given .1) (c .before .before .vst .ensures)
 
 pub put-message-spec : {M : Type 1} → statement M
 put-message-spec =
     tie.close
     (tie.spec
     enum-known-m
-    choice-requires
     request-requires
     enum-known-m-2
-    choice-requires-2
     action-response-requires
     enum-known-m-3
-    choice-requires-3
     request-requires-2
     enum-known-m-4
-    choice-requires-4
     response-requires
     enum-known-m-5
-    choice-requires-5
     set-request-requires
     enum-known-m-6
-    choice-requires-6
     response-requires-2
     enum-known-m-7
-    choice-requires-7
     get-request-requires
     enum-known-m-8
-    choice-requires-8
     get-response-requires
     enum-known-m-9
-    choice-requires-9
     bst-requires
     enum-known-m-10
-    choice-requires-10
     vst-requires
     same-length
     returns

@@ -15,6 +15,12 @@ returns-2 c = put-wrong (c .before .if1 .left) (not-true _ (c .if2 .taken))
 cast-write-field : tie.Need-cast-write-field
 cast-write-field c = search needs
 
+mul-write-field : tie.Need-mul-write-field
+mul-write-field c = search needs
+
+mul-write-field-2 : tie.Need-mul-write-field-2
+mul-write-field-2 c = search needs
+
 write-field-requires : tie.Need-write-field-requires
 write-field-requires c κs = search needs
 
@@ -30,4 +36,4 @@ returns-3 c = put-done (c .before .before .before .before .before .before .befor
 pub put-spec : {M : Type 1} → statement M
 put-spec =
     tie.close
-    (tie.spec returns returns-2 cast-write-field write-field-requires beyond-requires same-length returns-3)
+    (tie.spec returns returns-2 cast-write-field mul-write-field mul-write-field-2 write-field-requires beyond-requires same-length returns-3)
