@@ -7,12 +7,13 @@ use mathlib.Core.List.{List, [], _∷_, _++_, append-assoc, append-nil}
 use native.Mathlib.Nat.{add-zero, mod-eq-of-lt}
 use native.Mathlib.Numerals.{add-one}
 use native.Mathlib.Omega.{arith}
-use lib.Dec.{eqb}
-use borrow.Author.Tests.{eq-eqb, ne-eqb, le-leb, lt-leb, leb-true, not-true, not-false}
+use lib.Dec.{eqb, ltb}
+use borrow.Author.Tests.{eq-eqb, ne-eqb, eqb-true, eqb-false, le-leb, lt-leb, leb-true, lt-ltb, le-ltb, not-true, not-false}
+use Rattle.refusals.proofs.Tests.{by-cases, and-true, and-left, and-right}
 use lib.ListN.{length, length-append, getD, take, drop, set, take-append-drop}
 use lib.Seq.{drop-cons, set-at, length-take-le}
 use Rattle.bits.specs.Bits.{Octets, bits, digits, field, putBits}
-use Rattle.bits.specs.Strings.{isInside, stringAt, sameOctets, sameString, copyFits, copyString, writeFits, writeString}
+use Rattle.bits.specs.Strings.{isInside, stringAt, sameOctets, sameString, copyFits, copyString, writeFits, writeString, eachFirstBitClear, firstBitsClear}
 use Rattle.bits.proofs.Laws.{Ahead, below-nil, below-cons, below-tail, field-front, field-rest, bits-small, bits-append, length-bits, field-lt}
 use Rattle.bits.proofs.Put.{put-append, put-none, drop-put}
 
@@ -155,6 +156,39 @@ module _ (s : List ℕ) (start : ℕ) (t : List ℕ) (at n : ℕ) where
   rest-none k e =
       let m : n - k ≡ 0 = omega arith in
       rw m refl
+
+-- ---- first bits
+
+module _ (s : List ℕ) (start : ℕ) where
+  pub clear-none : eachFirstBitClear s start 0 ≡ true
+  unfolding eachFirstBitClear
+  clear-none = refl
+
+  pub clear-more : (k : ℕ) {x : ℕ} → eachFirstBitClear s start k ≡ true → x ≡ field s (start + 8 * k) 8 → x < 128 → eachFirstBitClear s start (k + 1) ≡ true
+  unfolding eachFirstBitClear
+  clear-more k e f h = rw add-one (and-true e (lt-ltb (field s (start + 8 * k) 8) 128 (omega arith)))
+
+  -- one octet that is not so decides for all
+  clear-not : (n k : ℕ) → k < n → 127 < field s (start + 8 * k) 8 → eachFirstBitClear s start n ≡ false
+  unfolding eachFirstBitClear
+  clear-not zero k h g = absurd (omega arith)
+  clear-not (suc n) k h g =
+      by-cases (eqb k n)
+      (λ e. and-right (eachFirstBitClear s start n) (le-ltb (field s (start + 8 * n) 8) 128 (omega (arith, ap (λ (i : ℕ). field s (start + 8 * i) 8) (eqb-true k n e)))))
+      (λ e. and-left (ltb (field s (start + 8 * n) 8) 128) (clear-not n k (omega (arith, eqb-false k n e)) g))
+
+  module _ (n : ℕ) where
+    pub clear-outside : isInside (length s) start n ≡ false → false ≡ firstBitsClear s start n
+    unfolding firstBitsClear
+    clear-outside h = simp h
+
+    pub clear-other : (k : ℕ) {x : ℕ} → k < n → x ≡ field s (start + 8 * k) 8 → 127 < x → false ≡ firstBitsClear s start n
+    unfolding firstBitsClear
+    clear-other k h e g = sym (and-right (isInside (length s) start n) (clear-not n k h (omega arith)))
+
+    pub clear-whole : {k : ℕ} → isInside (length s) start n ≡ true → eachFirstBitClear s start k ≡ true → k ≡ n → true ≡ firstBitsClear s start n
+    unfolding firstBitsClear
+    clear-whole here e f = sym (and-true here (rw f at e))
 
 -- ---- a write
 
