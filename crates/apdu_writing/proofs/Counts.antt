@@ -10,17 +10,17 @@ use native.Mathlib.Omega.{arith}
 use lib.ListN.{length, take, drop, length-drop}
 use lib.Seq.{drop-drop, take-all}
 use lib.Dec.{ltb, leb, eqb}
-use borrow.Author.Tests.{leb-true, leb-false, lt-ltb, le-ltb, eqb-true, eqb-false, not-true, not-false}
+use borrow.Author.Tests.{leb-true, leb-false, lt-ltb, le-ltb, eqb-true, not-true, not-false}
 use Rattle.refusals.specs.Check.{pick, firstOf}
 use Rattle.refusals.proofs.Tests.{by-cases, and-right}
-use Rattle.bits.specs.Bits.{bits, number, field, writeField, readField}
+use Rattle.bits.specs.Bits.{bits, digits, number, field, writeField, readField}
 use Rattle.bits.specs.Strings.{isInside}
-use Rattle.bits.proofs.Laws.{bits-small, below-nil, below-drop, number-add, number-lt, drop-bits}
+use Rattle.bits.proofs.Laws.{below-nil, drop-bits}
 use Rattle.bits.proofs.Put.{put-none}
 use Rattle.bits.proofs.Strings.{found-outside, found-inside}
 use Rattle.apdu_format.specs.Component.{Component, integer, idCount, listStart, rowCount, entryCount, entry, container}
 use Rattle.apdu_format.specs.Rules.{widths, shape, checksOf, brings, announced, content, knownKind, times}
-use Rattle.apdu_format.specs.Reading.{fields, string, numbersOf, sum, valueAt, fieldsOf}
+use Rattle.apdu_format.specs.Reading.{string, numbersOf, sum}
 use Rattle.apdu_format.specs.Writing.{bitsOf, fits, isValue, fieldsFit, areBits}
 use Rattle.apdu_format.proofs.Tests.{never, both}
 use Rattle.apdu.specs.Values.{num, idAt, idsAt, idList}
@@ -28,7 +28,8 @@ use Rattle.apdu_writing.specs.declared.quill.Quill.{Quill}
 use Rattle.apdu_writing.specs.Quill.{quill, least, behind, Put, spent, Moves, Puts, Few, Known, penAt, writes}
 use Rattle.apdu_writing.proofs.Levels.{writes-fine}
 use Rattle.apdu_writing.proofs.Chains.{idle, then, before}
-use Rattle.apdu_writing.proofs.Leaves.{packed, Writes, leaf, leaf-spent, in-number}
+use Rattle.apdu_writing.proofs.Leaves.{packed, Writes, leaf, leaf-spent, in-field, in-number}
+use Rattle.apdu_writing.proofs.IdLists.{id-fits, id-bits}
 
 -- an extension bit 0 and a number, in the code
 octet-by : (i : Component) (n : ℕ) (fine : Bool) (c : Quill) (o : List ℕ) → shape i ≡ widths (1 ∷ 7 ∷ []) → fine ≡ isValue i (c .room) (num n)
@@ -110,41 +111,12 @@ known-by {d} {k} {known} {c} {r} e p =
 
 -- ---- lists of ids
 
-id-range : (a b n : ℕ) → a < 2 → b < 128 → n ≡ a * 128 + b → ltb n 128 ≡ ((ltb a 2 && (ltb b 128 && true)) && eqb (pick (eqb a 1) 16 0) 0)
-id-range a b n h k e =
-    by-cases (eqb a 1)
-    (λ g. let m = eqb-true a 1 g in rw (le-ltb n 128 (omega arith), g) (sym (and-right (ltb a 2 && (ltb b 128 && true)) refl)))
-    (λ g. let m = eqb-false a 1 g in rw (lt-ltb n 128 (omega (arith, m)), g, lt-ltb a 2 h, lt-ltb b 128 k))
-
-module _ (s : List ℕ) (at : ℕ) where
-  abbrev l : List ℕ
-  l = drop at (bits s)
-
-  octet-number : readField s at 8 ≡ number 1 l * 128 + number 7 (drop 1 l)
-  unfolding readField field
-  octet-number = number-add 1 7 l
-
-  id-is : idAt s at ≡ fields (number 1 l ∷ number 7 (drop 1 l) ∷ [])
-  unfolding shape valueAt fieldsOf
-  id-is = refl
-
-  id-fits : (n room : ℕ) → n ≡ readField s at 8 → ltb n 128 ≡ isValue integer room (fields (number 1 l ∷ number 7 (drop 1 l) ∷ []))
-  unfolding isValue fits shape fieldsFit checksOf firstOf numbersOf
-  id-fits n room e =
-      let small = below-drop at (bits-small s) in
-      id-range (number 1 l) (number 7 (drop 1 l)) n (number-lt 1 l small) (number-lt 7 (drop 1 l) (below-drop 1 small)) (e ∙ octet-number)
-
-  id-packed : (n : ℕ) → n ≡ readField s at 8 → n ≡ packed (1 ∷ 7 ∷ []) (number 1 l ∷ number 7 (drop 1 l) ∷ [])
-  unfolding packed sum
-  id-packed n e = let m = octet-number in omega arith
-
-  id-by : {n : ℕ} {c r : Quill} {o o' : List ℕ} → n ≡ readField s at 8 → Put 8 (ltb n 128) c r (writeField o (c .at) 8 n) o o'
-      → Puts true (integer ∷ []) c r o o' (idAt s at ∷ [])
-  unfolding brings announced sum shape
-  id-by {n} {c} {r} {o} e p =
-      rw id-is
-      (leaf integer (fields (number 1 l ∷ number 7 (drop 1 l) ∷ [])) p
-      (in-number integer (1 ∷ 7 ∷ []) (number 1 l ∷ number 7 (drop 1 l) ∷ []) n (ltb n 128) (c .room) o (c .at) refl (omega arith) (id-fits n (c .room) e) (λ g. id-packed n e)) refl)
+id-by : (s : List ℕ) (at : ℕ) {n : ℕ} {c r : Quill} {o o' : List ℕ} → n ≡ readField s at 8 → Put 8 (ltb n 128) c r (writeField o (c .at) 8 n) o o'
+    → Puts true (integer ∷ []) c r o o' (idAt s at ∷ [])
+unfolding brings announced readField
+id-by s at {n} {c} {r} {o} e p =
+    leaf integer (idAt s at) p
+    (in-field integer (idAt s at) 8 n (ltb n 128) (c .room) o (c .at) (omega arith) (ap (λ (k : ℕ). ltb k 128) e ∙ id-fits s at (c .room)) (λ g. ap (digits 8) e ∙ sym (id-bits s at))) refl
 
 pub room-stays : {w : ℕ} {fine : Bool} {c r : Quill} {x o o' : List ℕ} → Put w fine c r x o o' → r .room ≡ c .room
 unfolding behind

@@ -34,6 +34,14 @@ string-snoc s start k = rw add-one (last s start k)
         let e : start + 8 + 8 * k ≡ start + 8 * suc k = omega arith in
         ap (λ (l : List ℕ). field s start 8 ∷ l) (last s (start + 8) k) ∙ ap (λ (i : ℕ). field s start 8 ∷ (stringAt s (start + 8) k ++ (field s i 8 ∷ []))) e
 
+pub bits-snoc : (s : List ℕ) (start k : ℕ) → bits (stringAt s start (k + 1)) ≡ bits (stringAt s start k) ++ digits 8 (field s (start + 8 * k) 8)
+bits-snoc s start k =
+    let o = field s (start + 8 * k) 8 in
+    ap bits (string-snoc s start k) ∙ bits-append (stringAt s start k) (o ∷ []) ∙ ap (λ (l : List ℕ). bits (stringAt s start k) ++ l) (one o)
+  where
+    one : (o : ℕ) → bits (o ∷ []) ≡ digits 8 o
+    one o = unfold bits in append-nil (digits 8 o)
+
 pub string-small : (s : List ℕ) (start n : ℕ) → Octets (stringAt s start n)
 unfolding stringAt
 string-small s start zero = below-nil (omega arith)
@@ -192,10 +200,6 @@ module _ (s : List ℕ) (start : ℕ) where
 
 -- ---- a write
 
-bits-one : (o : ℕ) → bits (o ∷ []) ≡ digits 8 o
-unfolding bits
-bits-one o = append-nil (digits 8 o)
-
 module _ (s : List ℕ) (start : ℕ) (out : List ℕ) (at : ℕ) where
   -- out with the string's first k octets written from bit place at on
   unfoldable pub Written : ℕ → List ℕ
@@ -213,8 +217,7 @@ module _ (s : List ℕ) (start : ℕ) (out : List ℕ) (at : ℕ) where
       let n : length l ≡ 8 * k = length-bits (stringAt s start k) ∙ ap (λ (i : ℕ). 8 * i) (length-string s start k) in
       let i : 8 * (at / 8 + k) + at % 8 ≡ at + length l = omega arith in
       let d : l ++ digits 8 x ≡ bits (stringAt s start (k + 1)) =
-      ap (λ (v : ℕ). l ++ digits 8 v) f ∙ ap (λ (r : List ℕ). l ++ r) (sym (bits-one (field s (start + 8 * k) 8)))
-      ∙ sym (bits-append (stringAt s start k) (field s (start + 8 * k) 8 ∷ [])) ∙ ap bits (sym (string-snoc s start k)) in
+      ap (λ (v : ℕ). l ++ digits 8 v) f ∙ sym (bits-snoc s start k) in
       g ∙ ap (λ (j : ℕ). putBits t j (digits 8 x)) i ∙ ap (λ (r : List ℕ). putBits r (at + length l) (digits 8 x)) e
       ∙ put-append out at l (digits 8 x) (bits-small (stringAt s start k)) (omega arith) ∙ ap (putBits out at) d
 
