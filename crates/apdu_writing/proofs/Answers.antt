@@ -1,6 +1,6 @@
 -- What `write` answers, one law for each way out.
 -- Assumes nothing.
-use Prim.Native.Nat.{ℕ, zero, suc, _+_, _*_, _/_, _≤_, _<_}
+use Prim.Native.Nat.{ℕ, zero, suc, _+_, _*_, _≤_, _<_}
 use mathlib.Core.Path.{_≡_, refl, ap, sym, _∙_}
 use mathlib.Core.List.{List, [], _∷_, _++_, append-nil}
 use mathlib.Core.Bool.{Bool, true, false, _&&_, not}
@@ -19,7 +19,6 @@ use Rattle.bits.proofs.Strings.{string-put}
 use Rattle.apdu_format.specs.Component.{choice}
 use Rattle.apdu_format.specs.Reading.{Value}
 use Rattle.apdu_format.specs.Writing.{Pen, written, none, inRange, encode, size, encodedOctets}
-use Rattle.apdu_format.proofs.Tests.{never}
 use Rattle.apdu_format.proofs.Whole.{written-whole}
 use Rattle.apdu.specs.declared.lists.Row.{Row}
 use Rattle.apdu.specs.declared.lists.Entry.{Entry}

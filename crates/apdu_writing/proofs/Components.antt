@@ -85,10 +85,14 @@ module _ (s : List ℕ) (start n : ℕ) where
   unfolding isInside
   inside-is m at f = le-leb _ _ f
 
+  pub octets-put : (o : List ℕ) (at : ℕ) → isInside (length s) start n ≡ true → at + 8 * n ≤ 8 * length o
+      → writeString s start n o at ≡ putBits o at (bits (stringAt s start n))
+  unfolding writeString writeFits
+  octets-put o at h f = rw (h, inside-is (length o) at f)
+
   octets-written : (o : List ℕ) (at : ℕ) → isInside (length s) start n ≡ true → at + 8 * n ≤ 8 * length o
       → writeString s start n o at ≡ putBits o at (take (8 * n) (drop start (bits s)))
-  unfolding writeString writeFits
-  octets-written o at h f = rw (h, inside-is (length o) at f) (ap (putBits o at) (string-bits s start n (inside-le (length s) start n h)))
+  octets-written o at h f = octets-put o at h f ∙ ap (putBits o at) (string-bits s start n (inside-le (length s) start n h))
 
   module _ {c r : Quill} {o o' : List ℕ} (p : Put n (isInside (length s) start n) c r (writeString s start n o (8 * c .at)) o o') where
     octets-inside : isInside (length s) start n ≡ true → Puts true (stringOctets n ∷ []) c r o o' (octetsValue ∷ [])

@@ -1,33 +1,27 @@
 -- Counts, container kinds and lists of ids: which values are in range, and what they bring.
 -- Assumes nothing.
-use Prim.Native.Nat.{ℕ, zero, suc, _+_, _-_, _*_, _/_, _%_, _≤_, _<_}
+use Prim.Native.Nat.{ℕ, _+_, _-_, _*_, _<_}
 use mathlib.Core.Path.{_≡_, refl, ap, sym, _∙_}
 use mathlib.Core.List.{List, [], _∷_, _++_}
-use mathlib.Core.Bool.{Bool, true, false, _&&_, _||_, not}
-use mathlib.Core.Logic.{inl}
-use native.Mathlib.Numerals.{add-one}
+use mathlib.Core.Bool.{Bool, true, _&&_, _||_, not}
 use native.Mathlib.Omega.{arith}
-use lib.ListN.{length, take, drop, length-drop}
-use lib.Seq.{drop-drop, take-all}
+use lib.ListN.{length}
 use lib.Dec.{ltb, leb, eqb}
-use borrow.Author.Tests.{leb-true, leb-false, lt-ltb, le-ltb, eqb-true, eqb-false, not-true, not-false}
+use borrow.Author.Tests.{leb-true, leb-false, lt-ltb, le-ltb, eqb-true, not-true}
 use Rattle.refusals.specs.Check.{pick, firstOf}
 use Rattle.refusals.proofs.Tests.{by-cases, and-right}
-use Rattle.bits.specs.Bits.{bits, number, field, writeField, readField}
-use Rattle.bits.specs.Strings.{isInside}
-use Rattle.bits.proofs.Laws.{bits-small, below-nil, below-drop, number-add, number-lt, drop-bits}
-use Rattle.bits.proofs.Put.{put-none}
-use Rattle.bits.proofs.Strings.{found-outside, found-inside}
+use Rattle.bits.specs.Bits.{number, writeField}
+use Rattle.bits.specs.Strings.{isInside, firstBitsClear, writeString}
 use Rattle.apdu_format.specs.Component.{Component, integer, idCount, listStart, rowCount, entryCount, entry, container}
 use Rattle.apdu_format.specs.Rules.{widths, shape, checksOf, brings, announced, content, knownKind, times}
-use Rattle.apdu_format.specs.Reading.{fields, string, numbersOf, sum, valueAt, fieldsOf}
-use Rattle.apdu_format.specs.Writing.{bitsOf, fits, isValue, fieldsFit, areBits}
+use Rattle.apdu_format.specs.Reading.{numbersOf, sum}
+use Rattle.apdu_format.specs.Writing.{fits, isValue, fieldsFit}
 use Rattle.apdu_format.proofs.Tests.{never, both}
-use Rattle.apdu.specs.Values.{num, idAt, idsAt, idList}
+use Rattle.apdu.specs.Values.{num, idList}
 use Rattle.apdu_writing.specs.declared.quill.Quill.{Quill}
-use Rattle.apdu_writing.specs.Quill.{quill, least, behind, Put, spent, Moves, Puts, Few, Known, penAt, writes}
-use Rattle.apdu_writing.proofs.Levels.{writes-fine}
-use Rattle.apdu_writing.proofs.Chains.{idle, then, before}
+use Rattle.apdu_writing.specs.Quill.{behind, Put, spent, Moves, Puts, Few, Known}
+use Rattle.apdu_writing.proofs.Chains.{idle, then}
+use Rattle.apdu_writing.proofs.IdLists.{list-put, clear-inside}
 use Rattle.apdu_writing.proofs.Leaves.{packed, Writes, leaf, leaf-spent, in-number}
 
 -- an extension bit 0 and a number, in the code
@@ -110,135 +104,10 @@ known-by {d} {k} {known} {c} {r} e p =
 
 -- ---- lists of ids
 
-id-range : (a b n : ℕ) → a < 2 → b < 128 → n ≡ a * 128 + b → ltb n 128 ≡ ((ltb a 2 && (ltb b 128 && true)) && eqb (pick (eqb a 1) 16 0) 0)
-id-range a b n h k e =
-    by-cases (eqb a 1)
-    (λ g. let m = eqb-true a 1 g in rw (le-ltb n 128 (omega arith), g) (sym (and-right (ltb a 2 && (ltb b 128 && true)) refl)))
-    (λ g. let m = eqb-false a 1 g in rw (lt-ltb n 128 (omega (arith, m)), g, lt-ltb a 2 h, lt-ltb b 128 k))
-
-module _ (s : List ℕ) (at : ℕ) where
-  abbrev l : List ℕ
-  l = drop at (bits s)
-
-  octet-number : readField s at 8 ≡ number 1 l * 128 + number 7 (drop 1 l)
-  unfolding readField field
-  octet-number = number-add 1 7 l
-
-  id-is : idAt s at ≡ fields (number 1 l ∷ number 7 (drop 1 l) ∷ [])
-  unfolding shape valueAt fieldsOf
-  id-is = refl
-
-  id-fits : (n room : ℕ) → n ≡ readField s at 8 → ltb n 128 ≡ isValue integer room (fields (number 1 l ∷ number 7 (drop 1 l) ∷ []))
-  unfolding isValue fits shape fieldsFit checksOf firstOf numbersOf
-  id-fits n room e =
-      let small = below-drop at (bits-small s) in
-      id-range (number 1 l) (number 7 (drop 1 l)) n (number-lt 1 l small) (number-lt 7 (drop 1 l) (below-drop 1 small)) (e ∙ octet-number)
-
-  id-packed : (n : ℕ) → n ≡ readField s at 8 → n ≡ packed (1 ∷ 7 ∷ []) (number 1 l ∷ number 7 (drop 1 l) ∷ [])
-  unfolding packed sum
-  id-packed n e = let m = octet-number in omega arith
-
-  id-by : {n : ℕ} {c r : Quill} {o o' : List ℕ} → n ≡ readField s at 8 → Put 1 (ltb n 128) c r (writeField o (8 * c .at) 8 n) o o'
-      → Puts true (integer ∷ []) c r o o' (idAt s at ∷ [])
-  unfolding brings announced sum shape
-  id-by {n} {c} {r} {o} e p =
-      rw id-is
-      (leaf integer (fields (number 1 l ∷ number 7 (drop 1 l) ∷ [])) p
-      (in-number integer (1 ∷ 7 ∷ []) (number 1 l ∷ number 7 (drop 1 l) ∷ []) n (ltb n 128) (c .room) o (8 * c .at) refl (omega arith) (id-fits n (c .room) e) (λ g. id-packed n e)) refl)
-
-pub room-stays : {w : ℕ} {fine : Bool} {c r : Quill} {x o o' : List ℕ} → Put w fine c r x o o' → r .room ≡ c .room
-unfolding behind
-room-stays p = ap (λ (z : Quill). z .room) (p .is)
-
--- an id read behind the first octets
-pub id-behind : (s : List ℕ) (start i : ℕ) {n : ℕ} {c r : Quill} {o o' : List ℕ} → start / 8 ≤ length s
-    → n ≡ readField (take (length s - start / 8) (drop (start / 8) s)) (start % 8 + 8 * i) 8 → Put 1 (ltb n 128) c r (writeField o (8 * c .at) 8 n) o o'
-    → Puts true (integer ∷ []) c r o o' (idAt s (start + 8 * i) ∷ [])
-id-behind s start i {n} h e p =
-    id-by s (start + 8 * i) (e ∙ rw whole read) p
-  where
-    whole : take (length s - start / 8) (drop (start / 8) s) ≡ drop (start / 8) s
-    whole = take-all (length s - start / 8) (drop (start / 8) s) (omega (arith, length-drop (start / 8) s))
-
-    behind : drop (start % 8 + 8 * i) (bits (drop (start / 8) s)) ≡ drop (start + 8 * i) (bits s)
-    behind =
-        let k : 8 * (start / 8) + (start % 8 + 8 * i) ≡ start + 8 * i = omega arith in
-        rw (← drop-bits (start / 8) s) (drop-drop (start % 8 + 8 * i) (8 * (start / 8)) (bits s) ∙ ap (λ (j : ℕ). drop j (bits s)) k)
-
-    read : readField (drop (start / 8) s) (start % 8 + 8 * i) 8 ≡ readField s (start + 8 * i) 8
-    read = unfold readField field in ap (number 8) behind
-
--- where a list starts takes no bit
-starts : (start : ℕ) (c : Quill) (o : List ℕ) → Puts true (listStart ∷ []) c c o o (string start [] ∷ [])
-unfolding brings announced shape bitsOf
-starts start c o =
-    record {
-      good = λ h.
-          record {
-            holds = refl;
-            came = h;
-            w = [];
-            small = below-nil (omega arith);
-            k = 0;
-            whole = refl;
-            so = λ rest b.
-                writes-fine listStart (c .room) (string start []) rest b (unfold isValue fits shape checksOf firstOf areBits in refl)
-                ∙ ap (λ (k : ℕ). writes [] (penAt rest k (b ++ []))) (less (c .room));
-            to = ap (λ (n : ℕ). least n) (omega arith);
-            ink = λ octs near fits. sym (put-none o (8 * c .at) octs);
-          };
-      bad = λ h k. never (sym h ∙ k);
-    }
-  where
-    less : (n : ℕ) → n - 0 ≡ n
-    less n = omega arith
-
--- behind its count, a list's start and its first i ids are written
-pub record Ids (s : List ℕ) (start n i : ℕ) (d e : Quill) (o o' : List ℕ) : Type 0 where
-  pub so : Moves true ((listStart ∷ []) ++ times n (integer ∷ [])) (times (n - i) (integer ∷ [])) d e o o' (string start [] ∷ idsAt s start i)
-
-pub ids-none : (s : List ℕ) (start n : ℕ) (d : Quill) (o : List ℕ) → Ids s start n 0 d d o o
-unfolding idsAt
-ids-none s start n d o = let e : n - 0 ≡ n = omega arith in record { so = rw e (before (times n (integer ∷ [])) (starts start d o)) }
-
-pub ids-more : (i : ℕ) {s : List ℕ} {start n : ℕ} {d e f : Quill} {o o₂ o₃ : List ℕ} → Ids s start n i d e o o₂ → i < n
-    → Puts true (integer ∷ []) e f o₂ o₃ (idAt s (start + 8 * i) ∷ []) → Ids s start n (i + 1) d f o o₃
-unfolding idsAt times
-ids-more i {s} {start} {n} p h q =
-    let m : n - i ≡ suc (n - suc i) = omega arith in
-    let k : i + 1 ≡ suc i = add-one i in
-    record { so = rw k (then (rw m at (p .so)) (before (times (n - suc i) (integer ∷ [])) q)) }
-
--- a good quill is its place and its room
-good : (d : Quill) → not (d .ok) ≡ false → quill (d .at) (d .room) true ≡ d
-good d h = ap (λ (b : Bool). quill (d .at) (d .room) b) (sym (not-false (d .ok) h))
-
--- a turn that goes well hands on its place alone
-pub ids-on : (i room : ℕ) {s : List ℕ} {start n : ℕ} {d e : Quill} (f : Quill) {o o₂ o₃ : List ℕ} → Ids s start n i d e o o₂ → i < n
-    → Puts true (integer ∷ []) e f o₂ o₃ (idAt s (start + 8 * i) ∷ []) → f .room ≡ room → not (f .ok) ≡ false → Ids s start n (i + 1) d (quill (f .at) room true) o o₃
-ids-on i room f p h q r ok = rw (ap (λ (k : ℕ). quill (f .at) k true) (sym r) ∙ good f ok) (ids-more i p h q)
-
--- behind an id that is out of range nothing is written
-ids-idle : (k i : ℕ) {s : List ℕ} {start n : ℕ} {d e : Quill} {o o' : List ℕ} → Ids s start n i d e o o' → i + k ≡ n → e .ok ≡ false → Ids s start n n d e o o'
-ids-idle zero i {n = n} q h bad = let g : i ≡ n = omega arith in rw g at q
-ids-idle (suc k) i q h bad = ids-idle k (i + 1) (ids-more i q (omega arith) (idle bad bad)) (omega arith) bad
-
 module _ (s : List ℕ) (start n : ℕ) {c d : Quill} {o o₁ : List ℕ} (p : Moves true (idCount ∷ []) ((listStart ∷ []) ++ times n (integer ∷ [])) c d o o₁ (num n ∷ [])) where
   pub ids-stopped : not (d .ok) ≡ true → Puts (isInside (length s) start n) (idCount ∷ []) c d o o₁ (idList s start n)
   ids-stopped h = let no = not-true (d .ok) h in then p (idle no no)
 
-  pub ids-outside : {r : Bool} → r ≡ isInside (length s) start n → not r ≡ true
-      → Puts (isInside (length s) start n) (idCount ∷ []) c (quill (d .at) (d .room) false) o o₁ (idList s start n)
-  ids-outside e h = record { good = λ g. never g; bad = λ g k. inl (found-outside (length s) start n e h) }
-
-  module _ {r : Bool} (ok : not (d .ok) ≡ false) (is : r ≡ isInside (length s) start n) (h : not r ≡ false) where
-    pub ids-all : (i : ℕ) {e : Quill} {o₂ : List ℕ} → Ids s start n i (quill (d .at) (d .room) true) e o₁ o₂ → i ≡ n
-        → Puts (isInside (length s) start n) (idCount ∷ []) c e o o₂ (idList s start n)
-    unfolding times
-    ids-all i q g =
-        let m : n - i ≡ 0 = omega arith in
-        rw (found-inside (length s) start n is h) (then p (rw g at (rw m at (rw (good d ok) at q .so))))
-
-    pub ids-cut : (i : ℕ) {e : Quill} {o₂ : List ℕ} → Ids s start n i (quill (d .at) (d .room) true) e o₁ o₂ → i ≤ n → not (e .ok) ≡ true
-        → Puts (isInside (length s) start n) (idCount ∷ []) c e o o₂ (idList s start n)
-    ids-cut i {e} q g bad = ids-all n (ids-idle (n - i) i q (omega arith) (not-true (e .ok) bad)) refl
+  pub ids-all : {r : Bool} {e : Quill} {o₂ : List ℕ} → r ≡ firstBitsClear s start n → Put n (r && isInside (length s) start n) d e (writeString s start n o₁ (8 * d .at)) o₁ o₂
+      → Puts (isInside (length s) start n) (idCount ∷ []) c e o o₂ (idList s start n)
+  ids-all {r} {e} {o₂} f q = then p (list-put s start n (rw (ap (λ (b : Bool). b && isInside (length s) start n) f ∙ clear-inside s start n) at q))

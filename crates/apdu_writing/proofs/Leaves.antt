@@ -66,13 +66,13 @@ pub record Writes (i : Component) (v : Value) (w : ℕ) (fine : Bool) (room : �
   pub long : fine ≡ true → length (bitsOf (shape i) v) ≡ w
   pub put : fine ≡ true → at + w ≤ 8 * length o → x ≡ putBits o at (bitsOf (shape i) v)
 
-least-least : (n : ℕ) → least (least n) ≡ least n
+pub least-least : (n : ℕ) → least (least n) ≡ least n
 least-least n = ap least (plus (least n)) ∙ least-add n 0 ∙ ap least (sym (plus n))
   where
     plus : (n : ℕ) → n ≡ n + 0
     plus n = omega arith
 
-wrong : (a b : Bool) → a ≡ true → (a && b) ≡ false → b ≡ false
+pub wrong : (a b : Bool) → a ≡ true → (a && b) ≡ false → b ≡ false
 wrong true b h k = k
 wrong false b h k = never h
 

@@ -3,6 +3,7 @@ pub mod Levels
 pub mod Chains
 pub mod Leaves
 pub mod Components
+pub mod IdLists
 pub mod Counts
 pub mod Heads
 pub mod RowLists

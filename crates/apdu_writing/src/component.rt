@@ -1,19 +1,17 @@
 // The components of 01, each by one function that writes nothing once a value is out of range.
-ghost use mathlib.Core.Path.{_≡_};
 ghost use mathlib.Core.Bool.{true};
-ghost use mathlib.Core.List.{[], _∷_, _++_};
-ghost use Prim.Native.Nat.{_*_, _+_, _<_, _≤_};
+ghost use mathlib.Core.List.{[], _∷_};
+ghost use Prim.Native.Nat.{_<_};
 ghost use lib.ListN.{length};
 ghost use Rattle.refusals.specs.Check.{pick};
 ghost use Rattle.bits.specs.Strings.{isInside};
-ghost use Rattle.apdu_format.specs.Component.{integer, stringForm, idCount, listStart, rowCount, entryCount, entry, container, choice};
-ghost use Rattle.apdu_format.specs.Rules.{knownKind, times, when};
-ghost use Rattle.apdu.specs.Values.{num, num-if, str, idAt, idList, if};
-ghost use Rattle.apdu_writing.specs.Quill.{Moves, Puts};
+ghost use Rattle.apdu_format.specs.Component.{integer, stringForm, entry};
+ghost use Rattle.apdu_format.specs.Rules.{when};
+ghost use Rattle.apdu.specs.Values.{num, num-if, str, if};
+ghost use Rattle.apdu_writing.specs.Quill.{Puts};
 use crate::quill::Quill;
 use crate::quill::put;
 use crate::quill::put_octets;
-use crate::quill::spend;
 
 // A number 0..127.
 pub(crate) fn number(n: u64, out: &mut [u8], c: Quill) -> Quill

@@ -1,16 +1,15 @@
 // Counts, container kinds and lists of ids.
-ghost use mathlib.Core.Path.{_≡_};
 ghost use mathlib.Core.Bool.{true};
 ghost use mathlib.Core.List.{[], _∷_, _++_};
-ghost use Prim.Native.Nat.{_*_, _+_, _/_, _<_, _≤_};
 ghost use lib.ListN.{length};
 ghost use Rattle.bits.specs.Strings.{isInside};
 ghost use Rattle.apdu_format.specs.Component.{integer, idCount, listStart, rowCount, entryCount, entry, container};
 ghost use Rattle.apdu_format.specs.Rules.{content, times};
-ghost use Rattle.apdu.specs.Values.{num, idAt, idList};
+ghost use Rattle.apdu.specs.Values.{num, idList};
 ghost use Rattle.apdu_writing.specs.Quill.{Moves, Puts, Few, Known};
 use crate::quill::Quill;
 use crate::quill::put;
+use crate::quill::put_octets;
 use crate::quill::spend;
 use apdu::known;
 
@@ -45,17 +44,7 @@ pub(crate) fn kind(depth: usize, k: u64, out: &mut [u8], c: Quill) -> Quill
     put(out, 1, k, fine, c)
 }
 
-// Id `i` of the list that stands in `lent` from bit place `start` on.
-fn id(lent: &[u8], start: usize, i: u64, out: &mut [u8], c: Quill) -> Quill
-    requires { ⌜ (start / 8 ≤ length (now lent)) × (i < 128) ⌝ }
-    ensures { λ r. ⌜ Puts true (integer ∷ []) c r (now (out .entry)) (now (out .exit)) (idAt (now (lent .entry)) (start + 8 * i) ∷ []) × (r .room ≡ c .room) ⌝ }
-{
-    let first = start / 8;
-    let n = bits::read_field(&lent[first..], start % 8 + 8 * (i as usize), 8);
-    put(out, 1, n, n < 128, c)
-}
-
-// A list of n ids that stand in `lent` from bit place `start` on. Only the place goes from turn to turn: room stays, and a turn follows a good one.
+// A list of n ids that stand in `lent` from bit place `start` on: one string of octets, if the first bit of each is 0.
 pub(crate) fn ids(lent: &[u8], start: usize, n: u64, out: &mut [u8], c: Quill) -> Quill
     ensures { λ r. ⌜ Puts (isInside (length (now (lent .entry))) start n) (idCount ∷ []) c r (now (out .entry)) (now (out .exit)) (idList (now (lent .entry)) start n) ⌝ }
 {
@@ -63,23 +52,6 @@ pub(crate) fn ids(lent: &[u8], start: usize, n: u64, out: &mut [u8], c: Quill) -
     if !d.ok {
         return d;
     }
-    if !bits::inside(lent.len(), start, n as usize) {
-        return Quill {
-            at: d.at,
-            room: d.room,
-            ok: false,
-        };
-    }
-    let room = d.room;
-    let mut at = d.at;
-    let mut i: u64 = 0;
-    while i < n {
-        let e = id(lent, start, i, out, Quill { at, room, ok: true });
-        if !e.ok {
-            return e;
-        }
-        at = e.at;
-        i += 1;
-    }
-    Quill { at, room, ok: true }
+    let fine = bits::first_bits_clear(lent, start, n as usize);
+    put_octets(lent, start, n as usize, fine, out, d)
 }

@@ -1,10 +1,8 @@
 // Application entries with their attribute rows.
-ghost use mathlib.Core.Path.{_≡_};
-ghost use mathlib.Core.Bool.{true};
 ghost use mathlib.Core.List.{[], _∷_};
 ghost use Prim.Native.Nat.{_+_, _<_, _≤_};
 ghost use lib.ListN.{length, take, drop};
-ghost use Rattle.apdu_format.specs.Component.{container, entry, entryCount};
+ghost use Rattle.apdu_format.specs.Component.{container, entry};
 ghost use Rattle.apdu_format.specs.Rules.{when};
 ghost use Rattle.apdu.specs.Values.{if, containerValues, entryRows, entryValues};
 ghost use Rattle.apdu_writing.specs.Quill.{Puts};

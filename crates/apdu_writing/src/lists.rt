@@ -1,6 +1,4 @@
 // Containers and attribute lists with their rows.
-ghost use mathlib.Core.Path.{_≡_};
-ghost use mathlib.Core.Bool.{true};
 ghost use mathlib.Core.List.{[], _∷_};
 ghost use lib.ListN.{length, take, drop};
 ghost use Rattle.apdu_format.specs.Component.{container, rowCount, idCount};

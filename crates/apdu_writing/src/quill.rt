@@ -1,7 +1,7 @@
 // The quill: a place in the output, by value. Once a value is out of range it stays so, and nothing more is written.
 ghost use mathlib.Core.Path.{_≡_};
 ghost use mathlib.Core.Bool.{_&&_};
-ghost use Prim.Native.Nat.{_+_, _*_, _^_, _<_, _≤_};
+ghost use Prim.Native.Nat.{_+_, _*_, _<_, _≤_};
 ghost use lib.ListN.{length};
 ghost use Rattle.bits.specs.Bits.{writeField};
 ghost use Rattle.bits.specs.Strings.{isInside, writeString};

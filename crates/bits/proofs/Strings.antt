@@ -7,12 +7,13 @@ use mathlib.Core.List.{List, [], _∷_, _++_, append-assoc, append-nil}
 use native.Mathlib.Nat.{add-zero, mod-eq-of-lt}
 use native.Mathlib.Numerals.{add-one}
 use native.Mathlib.Omega.{arith}
-use lib.Dec.{eqb}
-use borrow.Author.Tests.{eq-eqb, ne-eqb, le-leb, lt-leb, leb-true, not-true, not-false}
+use lib.Dec.{eqb, ltb}
+use borrow.Author.Tests.{eq-eqb, ne-eqb, eqb-true, eqb-false, le-leb, lt-leb, leb-true, lt-ltb, le-ltb, not-true, not-false}
+use Rattle.refusals.proofs.Tests.{by-cases, and-true, and-left, and-right}
 use lib.ListN.{length, length-append, getD, take, drop, set, take-append-drop}
 use lib.Seq.{drop-cons, set-at, length-take-le}
 use Rattle.bits.specs.Bits.{Octets, bits, digits, field, putBits}
-use Rattle.bits.specs.Strings.{isInside, stringAt, sameOctets, sameString, copyFits, copyString, writeFits, writeString}
+use Rattle.bits.specs.Strings.{isInside, stringAt, sameOctets, sameString, copyFits, copyString, writeFits, writeString, eachFirstBitClear, firstBitsClear}
 use Rattle.bits.proofs.Laws.{Ahead, below-nil, below-cons, below-tail, field-front, field-rest, bits-small, bits-append, length-bits, field-lt}
 use Rattle.bits.proofs.Put.{put-append, put-none, drop-put}
 
@@ -32,6 +33,14 @@ string-snoc s start k = rw add-one (last s start k)
     last s start (suc k) =
         let e : start + 8 + 8 * k ≡ start + 8 * suc k = omega arith in
         ap (λ (l : List ℕ). field s start 8 ∷ l) (last s (start + 8) k) ∙ ap (λ (i : ℕ). field s start 8 ∷ (stringAt s (start + 8) k ++ (field s i 8 ∷ []))) e
+
+pub bits-snoc : (s : List ℕ) (start k : ℕ) → bits (stringAt s start (k + 1)) ≡ bits (stringAt s start k) ++ digits 8 (field s (start + 8 * k) 8)
+bits-snoc s start k =
+    let o = field s (start + 8 * k) 8 in
+    ap bits (string-snoc s start k) ∙ bits-append (stringAt s start k) (o ∷ []) ∙ ap (λ (l : List ℕ). bits (stringAt s start k) ++ l) (one o)
+  where
+    one : (o : ℕ) → bits (o ∷ []) ≡ digits 8 o
+    one o = unfold bits in append-nil (digits 8 o)
 
 pub string-small : (s : List ℕ) (start n : ℕ) → Octets (stringAt s start n)
 unfolding stringAt
@@ -156,11 +165,40 @@ module _ (s : List ℕ) (start : ℕ) (t : List ℕ) (at n : ℕ) where
       let m : n - k ≡ 0 = omega arith in
       rw m refl
 
--- ---- a write
+-- ---- first bits
 
-bits-one : (o : ℕ) → bits (o ∷ []) ≡ digits 8 o
-unfolding bits
-bits-one o = append-nil (digits 8 o)
+module _ (s : List ℕ) (start : ℕ) where
+  pub clear-none : eachFirstBitClear s start 0 ≡ true
+  unfolding eachFirstBitClear
+  clear-none = refl
+
+  pub clear-more : (k : ℕ) {x : ℕ} → eachFirstBitClear s start k ≡ true → x ≡ field s (start + 8 * k) 8 → x < 128 → eachFirstBitClear s start (k + 1) ≡ true
+  unfolding eachFirstBitClear
+  clear-more k e f h = rw add-one (and-true e (lt-ltb (field s (start + 8 * k) 8) 128 (omega arith)))
+
+  -- one octet that is not so decides for all
+  clear-not : (n k : ℕ) → k < n → 127 < field s (start + 8 * k) 8 → eachFirstBitClear s start n ≡ false
+  unfolding eachFirstBitClear
+  clear-not zero k h g = absurd (omega arith)
+  clear-not (suc n) k h g =
+      by-cases (eqb k n)
+      (λ e. and-right (eachFirstBitClear s start n) (le-ltb (field s (start + 8 * n) 8) 128 (omega (arith, ap (λ (i : ℕ). field s (start + 8 * i) 8) (eqb-true k n e)))))
+      (λ e. and-left (ltb (field s (start + 8 * n) 8) 128) (clear-not n k (omega (arith, eqb-false k n e)) g))
+
+  module _ (n : ℕ) where
+    pub clear-outside : isInside (length s) start n ≡ false → false ≡ firstBitsClear s start n
+    unfolding firstBitsClear
+    clear-outside h = simp h
+
+    pub clear-other : (k : ℕ) {x : ℕ} → k < n → x ≡ field s (start + 8 * k) 8 → 127 < x → false ≡ firstBitsClear s start n
+    unfolding firstBitsClear
+    clear-other k h e g = sym (and-right (isInside (length s) start n) (clear-not n k h (omega arith)))
+
+    pub clear-whole : {k : ℕ} → isInside (length s) start n ≡ true → eachFirstBitClear s start k ≡ true → k ≡ n → true ≡ firstBitsClear s start n
+    unfolding firstBitsClear
+    clear-whole here e f = sym (and-true here (rw f at e))
+
+-- ---- a write
 
 module _ (s : List ℕ) (start : ℕ) (out : List ℕ) (at : ℕ) where
   -- out with the string's first k octets written from bit place at on
@@ -179,8 +217,7 @@ module _ (s : List ℕ) (start : ℕ) (out : List ℕ) (at : ℕ) where
       let n : length l ≡ 8 * k = length-bits (stringAt s start k) ∙ ap (λ (i : ℕ). 8 * i) (length-string s start k) in
       let i : 8 * (at / 8 + k) + at % 8 ≡ at + length l = omega arith in
       let d : l ++ digits 8 x ≡ bits (stringAt s start (k + 1)) =
-      ap (λ (v : ℕ). l ++ digits 8 v) f ∙ ap (λ (r : List ℕ). l ++ r) (sym (bits-one (field s (start + 8 * k) 8)))
-      ∙ sym (bits-append (stringAt s start k) (field s (start + 8 * k) 8 ∷ [])) ∙ ap bits (sym (string-snoc s start k)) in
+      ap (λ (v : ℕ). l ++ digits 8 v) f ∙ sym (bits-snoc s start k) in
       g ∙ ap (λ (j : ℕ). putBits t j (digits 8 x)) i ∙ ap (λ (r : List ℕ). putBits r (at + length l) (digits 8 x)) e
       ∙ put-append out at l (digits 8 x) (bits-small (stringAt s start k)) (omega arith) ∙ ap (putBits out at) d
 

@@ -4,7 +4,7 @@ use Prim.Native.Nat.{ℕ, zero, suc, _+_, _*_}
 use mathlib.Core.Bool.{Bool, true, false, _&&_}
 use mathlib.Core.List.{List, [], _∷_, _++_}
 use lib.ListN.{length, take, drop}
-use lib.Dec.{leb, eqb}
+use lib.Dec.{leb, ltb, eqb}
 use Rattle.refusals.specs.Check.{pick}
 use Rattle.bits.specs.Bits.{bits, field, putBits}
 
@@ -43,3 +43,12 @@ writeFits s start n out at = isInside (length s) start n && isInside (length out
 -- out after the string is written from bit place at on
 unfoldable pub writeString : List ℕ → ℕ → ℕ → List ℕ → ℕ → List ℕ
 writeString s start n out at = pick (writeFits s start n out at) (putBits out at (bits (stringAt s start n))) out
+
+-- the first bit of each of the n octets from bit place start is 0
+unfoldable pub eachFirstBitClear : List ℕ → ℕ → ℕ → Bool
+eachFirstBitClear s start zero = true
+eachFirstBitClear s start (suc n) = eachFirstBitClear s start n && ltb (field s (start + 8 * n) 8) 128
+
+-- the string is inside its octets, and the first bit of each of its octets is 0
+unfoldable pub firstBitsClear : List ℕ → ℕ → ℕ → Bool
+firstBitsClear s start n = isInside (length s) start n && eachFirstBitClear s start n

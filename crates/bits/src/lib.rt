@@ -7,6 +7,7 @@ pub use field::octet;
 pub use field::read_field;
 pub use field::write_field;
 pub use string::copy_string;
+pub use string::first_bits_clear;
 pub use string::inside;
 pub use string::same_string;
 pub use string::write_string;

@@ -4,7 +4,7 @@ ghost use mathlib.Core.List.{_++_};
 ghost use Prim.Native.Nat.{_+_, _*_, _^_, _<_, _≤_};
 ghost use lib.ListN.{length, take, drop};
 ghost use Rattle.bits.specs.Bits.{field};
-ghost use Rattle.bits.specs.Strings.{isInside, stringAt, sameOctets, sameString, copyFits, copyString, writeFits, writeString};
+ghost use Rattle.bits.specs.Strings.{isInside, stringAt, sameOctets, sameString, copyFits, copyString, writeFits, writeString, firstBitsClear};
 use crate::field::field_in;
 use crate::field::put_field;
 
@@ -123,6 +123,23 @@ pub fn write_string(s: &[u8], start: usize, n: usize, out: &mut [u8], at: usize)
     while k < n {
         let o = string_octet(s, start / 8, start % 8, k);
         put_field(out, at / 8 + k, at % 8, 8, o as u64);
+        k += 1;
+    }
+    true
+}
+
+// Whether the `n` octets from bit place `start` of `s` are inside, and the first bit of each is 0.
+pub fn first_bits_clear(s: &[u8], start: usize, n: usize) -> bool
+    ensures { λ r. ⌜ r ≡ firstBitsClear (now (s .entry)) start n ⌝ }
+{
+    if !inside(s.len(), start, n) {
+        return false;
+    }
+    let mut k: usize = 0;
+    while k < n {
+        if 127 < string_octet(s, start / 8, start % 8, k) {
+            return false;
+        }
         k += 1;
     }
     true
