@@ -1,11 +1,10 @@
 // The components of 01, each by one function that writes nothing once a value is out of range.
 ghost use mathlib.Core.Bool.{true};
 ghost use mathlib.Core.List.{[], _∷_};
-ghost use Prim.Native.Nat.{_<_};
 ghost use lib.ListN.{length};
 ghost use Rattle.refusals.specs.Check.{pick};
 ghost use Rattle.bits.specs.Strings.{isInside};
-ghost use Rattle.apdu_format.specs.Component.{integer, stringForm, entry};
+ghost use Rattle.apdu_format.specs.Component.{integer, stringForm};
 ghost use Rattle.apdu_format.specs.Rules.{when};
 ghost use Rattle.apdu.specs.Values.{num, num-if, str, if};
 ghost use Rattle.apdu_writing.specs.Quill.{Puts};
