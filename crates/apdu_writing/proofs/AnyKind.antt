@@ -1,28 +1,30 @@
 -- A message of any kind: its choice, and then the rest.
 -- Assumes nothing.
 use Prim.Native.Nat.{ℕ}
-use mathlib.Core.Path.{_≡_}
+use mathlib.Core.Path.{_≡_, refl}
 use mathlib.Core.List.{List, [], _∷_}
 use mathlib.Core.Bool.{true}
+use denote.Enum.Declared as Declared
 use lib.ListN.{length}
+use types.Run.{OneOf, miss}
 use Rattle.apdu_format.specs.Component.{choice, lead}
 use Rattle.apdu_format.specs.Reading.{fields}
 use Rattle.apdu.specs.declared.lists.Row.{Row}
 use Rattle.apdu.specs.declared.lists.Entry.{Entry}
 use Rattle.apdu.specs.declared.records.Message.{Message}
 use Rattle.apdu.specs.declared.records.Message.the-variants as kind
+use Rattle.apdu.proofs.records.Message as message
 use Rattle.apdu.specs.declared.records.Request.{Request}
 use Rattle.apdu.specs.declared.records.ActionResponse.{ActionResponse}
 use Rattle.apdu.specs.declared.records.Response.{Response}
 use Rattle.apdu.specs.declared.records.SetRequest.{SetRequest}
 use Rattle.apdu.specs.declared.records.GetRequest.{GetRequest}
 use Rattle.apdu.specs.declared.records.GetResponse.{GetResponse}
-use Rattle.apdu.specs.declared.records.Bst.{Bst}
-use Rattle.apdu.specs.declared.records.Vst.{Vst}
-use Rattle.apdu.specs.Values.{valuesOf, requestValues, actionResponseValues, responseValues, setRequestValues, getRequestValues, getResponseValues, bstValues, vstValues}
+use Rattle.apdu.specs.Values.{valuesOf, requestValues, actionResponseValues, responseValues, setRequestValues, getRequestValues, getResponseValues}
 use Rattle.apdu_writing.specs.declared.quill.Quill.{Quill}
-use Rattle.apdu.specs.Sound.{sound, requestSound, actionResponseSound, setRequestSound, getRequestSound, getResponseSound, bstSound, vstSound}
+use Rattle.apdu.specs.Sound.{sound, requestSound, actionResponseSound, setRequestSound, getRequestSound, getResponseSound}
 use Rattle.apdu_writing.specs.Quill.{Moves, Puts}
+use Rattle.apdu_writing.specs.Link.{LinkPut}
 use Rattle.apdu_writing.proofs.Chains.{then}
 
 module _ (s : List ℕ) (m : Message) (es : List Entry) (rs : List Row) {c d r : Quill} {o o₁ o₂ : List ℕ} where
@@ -58,10 +60,17 @@ module _ (s : List ℕ) (m : Message) (es : List Entry) (rs : List Row) {c d r :
   unfolding sound valuesOf
   put-7 e p q = rw e (then p q)
 
-  pub put-8 : {x : Bst} → m ≡ kind.Bst x → Moves true (choice ∷ []) (lead 8 ∷ []) c d o o₁ (fields (8 ∷ []) ∷ []) → Puts (bstSound (length s) x es rs) (lead 8 ∷ []) d r o₁ o₂ (bstValues s x es rs) → Puts (sound (length s) m es rs) (choice ∷ []) c r o o₂ (valuesOf s m es rs)
-  unfolding sound valuesOf
-  put-8 e p q = rw e (then p q)
-
-  pub put-9 : {x : Vst} → m ≡ kind.Vst x → Moves true (choice ∷ []) (lead 9 ∷ []) c d o o₁ (fields (9 ∷ []) ∷ []) → Puts (vstSound (length s) x es rs) (lead 9 ∷ []) d r o₁ o₂ (vstValues s x es rs) → Puts (sound (length s) m es rs) (choice ∷ []) c r o o₂ (valuesOf s m es rs)
-  unfolding sound valuesOf
-  put-9 e p q = rw e (then p q)
+-- a BST or a VST
+pub put-link : (s : List ℕ) (m : Message) (es : List Entry) (rs : List Row) {c r : Quill} {o o' : List ℕ} → OneOf (8 ∷ 9 ∷ []) (Declared.tagOf message.the-type m) → LinkPut s m es rs c r o o'
+    → Puts (sound (length s) m es rs) (choice ∷ []) c r o o' (valuesOf s m es rs)
+unfolding sound valuesOf
+put-link s (kind.ActionRequest x) es rs h p = absurd (miss (8 ∷ 9 ∷ []) 0 tt h)
+put-link s (kind.ActionResponse x) es rs h p = absurd (miss (8 ∷ 9 ∷ []) 1 tt h)
+put-link s (kind.EventRequest x) es rs h p = absurd (miss (8 ∷ 9 ∷ []) 2 tt h)
+put-link s (kind.EventResponse x) es rs h p = absurd (miss (8 ∷ 9 ∷ []) 3 tt h)
+put-link s (kind.SetRequest x) es rs h p = absurd (miss (8 ∷ 9 ∷ []) 4 tt h)
+put-link s (kind.SetResponse x) es rs h p = absurd (miss (8 ∷ 9 ∷ []) 5 tt h)
+put-link s (kind.GetRequest x) es rs h p = absurd (miss (8 ∷ 9 ∷ []) 6 tt h)
+put-link s (kind.GetResponse x) es rs h p = absurd (miss (8 ∷ 9 ∷ []) 7 tt h)
+put-link s (kind.Bst x) es rs h p = p .bst x refl
+put-link s (kind.Vst x) es rs h p = p .vst x refl

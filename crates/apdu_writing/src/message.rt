@@ -13,8 +13,7 @@ use crate::kinds::get_response;
 use crate::kinds::request;
 use crate::kinds::response;
 use crate::kinds::set_request;
-use crate::link::bst;
-use crate::link::vst;
+use crate::link::link_message;
 use crate::quill::Quill;
 use apdu::Entry;
 use apdu::Message;
@@ -64,13 +63,6 @@ pub(crate) fn put_message(
             let d = choice(7, out, c);
             get_response(lent, x, table, out, d)
         }
-        Message::Bst(x) => {
-            let d = choice(8, out, c);
-            bst(lent, x, list, table, out, d)
-        }
-        Message::Vst(x) => {
-            let d = choice(9, out, c);
-            vst(lent, x, list, table, out, d)
-        }
+        _ => link_message(lent, m, list, table, out, c),
     }
 }
