@@ -4,7 +4,9 @@ use Prim.Native.Nat.{ℕ}
 use mathlib.Core.Path.{_≡_, refl}
 use mathlib.Core.List.{List, [], _∷_}
 use mathlib.Core.Bool.{true}
+use denote.Enum.Declared as Declared
 use lib.ListN.{length}
+use types.Run.{OneOf, miss}
 use Rattle.apdu_format.specs.Component.{choice}
 use Rattle.apdu_format.specs.Table.{layoutOf}
 use Rattle.apdu_format.specs.Reading.{fields}
@@ -12,18 +14,18 @@ use Rattle.apdu.specs.declared.lists.Row.{Row}
 use Rattle.apdu.specs.declared.lists.Entry.{Entry}
 use Rattle.apdu.specs.declared.records.Message.{Message}
 use Rattle.apdu.specs.declared.records.Message.the-variants as kind
+use Rattle.apdu.proofs.records.Message as message
 use Rattle.apdu.specs.declared.records.Request.{Request}
 use Rattle.apdu.specs.declared.records.ActionResponse.{ActionResponse}
 use Rattle.apdu.specs.declared.records.Response.{Response}
 use Rattle.apdu.specs.declared.records.SetRequest.{SetRequest}
 use Rattle.apdu.specs.declared.records.GetRequest.{GetRequest}
 use Rattle.apdu.specs.declared.records.GetResponse.{GetResponse}
-use Rattle.apdu.specs.declared.records.Bst.{Bst}
-use Rattle.apdu.specs.declared.records.Vst.{Vst}
-use Rattle.apdu.specs.Values.{valuesOf, requestValues, actionResponseValues, responseValues, setRequestValues, getRequestValues, getResponseValues, bstValues, vstValues}
+use Rattle.apdu.specs.Values.{valuesOf, requestValues, actionResponseValues, responseValues, setRequestValues, getRequestValues, getResponseValues}
 use Rattle.apdu_writing.specs.declared.quill.Quill.{Quill}
-use Rattle.apdu.specs.Sound.{sound, requestSound, actionResponseSound, setRequestSound, getRequestSound, getResponseSound, bstSound, vstSound}
+use Rattle.apdu.specs.Sound.{sound, requestSound, actionResponseSound, setRequestSound, getRequestSound, getResponseSound}
 use Rattle.apdu_writing.specs.Quill.{Puts, As}
+use Rattle.apdu_writing.specs.Link.{LinkPut}
 
 module _ (s : List ℕ) (m : Message) (es : List Entry) (rs : List Row) {c r : Quill} {o o' : List ℕ} where
   pub put-0 : {x : Request} → m ≡ kind.ActionRequest x → As 0 0 (Puts (requestSound (length s) x rs) (choice ∷ []) c r o o' (fields (0 ∷ []) ∷ requestValues s x rs)) → Puts (sound (length s) m es rs) (choice ∷ []) c r o o' (valuesOf s m es rs)
@@ -58,10 +60,17 @@ module _ (s : List ℕ) (m : Message) (es : List Entry) (rs : List Row) {c r : Q
   unfolding sound valuesOf
   put-7 e q = rw e (q)
 
-  pub put-8 : {x : Bst} → m ≡ kind.Bst x → Puts (bstSound (length s) x es rs) (choice ∷ []) c r o o' (fields (8 ∷ []) ∷ bstValues s x es rs) → Puts (sound (length s) m es rs) (choice ∷ []) c r o o' (valuesOf s m es rs)
-  unfolding sound valuesOf
-  put-8 e q = rw e (q)
-
-  pub put-9 : {x : Vst} → m ≡ kind.Vst x → Puts (vstSound (length s) x es rs) (choice ∷ []) c r o o' (fields (9 ∷ []) ∷ vstValues s x es rs) → Puts (sound (length s) m es rs) (choice ∷ []) c r o o' (valuesOf s m es rs)
-  unfolding sound valuesOf
-  put-9 e q = rw e (q)
+-- a BST or a VST
+pub put-link : (s : List ℕ) (m : Message) (es : List Entry) (rs : List Row) {c r : Quill} {o o' : List ℕ} → OneOf (8 ∷ 9 ∷ []) (Declared.tagOf message.the-type m) → LinkPut s m es rs c r o o'
+    → Puts (sound (length s) m es rs) (choice ∷ []) c r o o' (valuesOf s m es rs)
+unfolding sound valuesOf
+put-link s (kind.ActionRequest x) es rs h p = absurd (miss (8 ∷ 9 ∷ []) 0 tt h)
+put-link s (kind.ActionResponse x) es rs h p = absurd (miss (8 ∷ 9 ∷ []) 1 tt h)
+put-link s (kind.EventRequest x) es rs h p = absurd (miss (8 ∷ 9 ∷ []) 2 tt h)
+put-link s (kind.EventResponse x) es rs h p = absurd (miss (8 ∷ 9 ∷ []) 3 tt h)
+put-link s (kind.SetRequest x) es rs h p = absurd (miss (8 ∷ 9 ∷ []) 4 tt h)
+put-link s (kind.SetResponse x) es rs h p = absurd (miss (8 ∷ 9 ∷ []) 5 tt h)
+put-link s (kind.GetRequest x) es rs h p = absurd (miss (8 ∷ 9 ∷ []) 6 tt h)
+put-link s (kind.GetResponse x) es rs h p = absurd (miss (8 ∷ 9 ∷ []) 7 tt h)
+put-link s (kind.Bst x) es rs h p = p .bst x refl
+put-link s (kind.Vst x) es rs h p = p .vst x refl

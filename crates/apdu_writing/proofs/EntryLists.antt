@@ -3,13 +3,13 @@
 use Prim.Native.Nat.{ℕ, suc, _+_, _-_, _*_, _≤_, _<_}
 use mathlib.Core.Path.{_≡_, refl, ap, sym, _∙_}
 use mathlib.Core.List.{List, [], _∷_, _++_}
-use mathlib.Core.Bool.{true, _&&_, not}
+use mathlib.Core.Bool.{Bool, true, false, _&&_, not}
 use native.Mathlib.Omega.{arith}
 use native.Mathlib.Numerals.{add-one}
 use lib.ListN.{length, take, drop, getD, length-drop}
 use lib.Seq.{take-suc, take-all, drop-drop, length-take-le, getD-take, getD-drop}
 use lib.Dec.{ltb}
-use borrow.Author.Tests.{ltb-true, not-true}
+use borrow.Author.Tests.{ltb-true, not-true, not-false}
 use Rattle.refusals.specs.Check.{firstOf}
 use Rattle.bits.specs.Bits.{writeField}
 use Rattle.apdu_format.specs.Component.{integer, entry, entryCount, container}
@@ -19,15 +19,17 @@ use Rattle.apdu_format.specs.Writing.{fits, isValue, fieldsFit}
 use Rattle.apdu_format.proofs.Tests.{never}
 use Rattle.apdu.specs.declared.lists.Row.{Row}
 use Rattle.apdu.specs.declared.lists.Entry.{Entry}
-use Rattle.apdu.specs.Values.{bitOf, num, num-if, if, containerValues, entryValues, entriesValues, entryRows, rowsOf, emptyEntry}
-use Rattle.apdu.proofs.Laws.{and-unit, rows-of-snoc, entries-snoc, sound-snoc}
+use Rattle.apdu.specs.Values.{bitOf, num, num-if, if, containerValues, entryValues, entriesValues, listValues, entryRows, rowsOf, emptyEntry}
+use Rattle.apdu.proofs.Laws.{and-unit, own-values, rows-of-snoc, entries-snoc, sound-snoc}
 use Rattle.apdu_writing.specs.declared.quill.Quill.{Quill}
+use Rattle.apdu_writing.specs.declared.entries.EntriesPut.{EntriesPut}
 use Rattle.apdu.specs.Sound.{soundIf, containerSound, entrySound, entriesSound}
 use Rattle.apdu_writing.specs.Quill.{Put, Moves, Puts, Small}
-use Rattle.apdu_writing.specs.Applications.{Listed}
+use Rattle.apdu_writing.specs.Applications.{Listed, Lists}
 use Rattle.apdu_writing.proofs.Chains.{nothing, idle, then, and-then, before}
 use Rattle.apdu_writing.proofs.Leaves.{packed, leaf, in-number}
 use Rattle.apdu_writing.proofs.Leads.{is-set, bit-fits}
+use Rattle.apdu_writing.proofs.Components.{there-sound, absent-sound}
 
 -- ---- one entry
 
@@ -120,3 +122,58 @@ pub turns-stopped : (s : List ℕ) (es : List Entry) (from n : ℕ) (rs : List R
 turns-stopped s es from n rs first {b} {c} h m =
     let no = not-true (c .ok) h in
     record { so = then m (idle no no); used = λ x. never (sym no ∙ x); few = λ x. never (sym no ∙ x); near = omega arith }
+
+-- ---- a list, and perhaps a second behind it
+
+module _ (s : List ℕ) (es : List Entry) (n : ℕ) (p : Bool) (k : ℕ) (rs : List Row) {c : Quill} {o : List ℕ} {t : EntriesPut} {o₁ : List ℕ} (l : Listed s es 0 n rs 0 c t o o₁) where
+  first-list : Puts (entriesSound (length s) (take n es) rs) (entryCount ∷ []) c (t .quill) o o₁ (listValues s n (take n es) rs)
+  first-list = rw (← own-values s (take n es) rs) (l .so)
+
+  one-stopped : t .quill .ok ≡ false → Lists s es n p k rs c (t .quill) o o₁
+  one-stopped h = record { between = t .quill; half = o₁; first = first-list; second = idle h h }
+
+  one-list : p ≡ false → Lists s es n p k rs c (t .quill) o o₁
+  one-list h = record { between = t .quill; half = o₁; first = first-list; second = absent-sound _ _ _ _ p h _ }
+
+  two-lists : {u : EntriesPut} {o₂ : List ℕ} → p ≡ true → t .quill .ok ≡ true → Listed s es n k rs (t .used) (t .quill) u o₁ o₂ → Lists s es n p k rs c (u .quill) o o₂
+  two-lists {u = u} {o₂ = o₂} h came m =
+      let fs = take n es in
+      let es₂ = take k (drop n es) in
+      let rs₂ = drop (rowsOf fs) rs in
+      let e : t .used ≡ rowsOf fs = l .used came ∙ none (rowsOf fs) in
+      let more : Puts (entriesSound (length s) es₂ rs₂) (entryCount ∷ []) (t .quill) (u .quill) o₁ o₂ (listValues s k es₂ rs₂) = rw (← own-values s es₂ rs₂) (rw e at (m .so)) in
+      record { between = t .quill; half = o₁; first = first-list; second = there-sound p h more }
+    where
+      none : (n : ℕ) → 0 + n ≡ n
+      none n = omega arith
+
+-- the next list is the first; or it is the second and the last
+pub data Stage (s : List ℕ) (es : List Entry) (n : ℕ) (p : Bool) (k : ℕ) (rs : List Row) (c : Quill) (o : List ℕ) (more : Bool) (from count used : ℕ) (q : Quill) (o₁ : List ℕ) : Type 0 where
+  begins : more ≡ p → from ≡ 0 → count ≡ n → used ≡ 0 → q ≡ c → o₁ ≡ o → Stage s es n p k rs c o more from count used q o₁
+  goes-on : p ≡ true → more ≡ false → from ≡ n → count ≡ k → q .ok ≡ true → Listed s es 0 n rs 0 c (record { quill = q; used = used }) o o₁ → Stage s es n p k rs c o more from count used q o₁
+
+pub stage-first : (s : List ℕ) (es : List Entry) (n : ℕ) (p : Bool) (k : ℕ) (rs : List Row) (c : Quill) (o : List ℕ) → Stage s es n p k rs c o p 0 n 0 c o
+stage-first s es n p k rs c o = begins refl refl refl refl refl refl
+
+module _ {s : List ℕ} {es : List Entry} {n : ℕ} {p : Bool} {k : ℕ} {rs : List Row} {c : Quill} {o : List ℕ} {more : Bool} {from count used : ℕ} {q : Quill} {o₁ : List ℕ} where
+  pub stage-low : Stage s es n p k rs c o more from count used q o₁ → (from ≤ 16) × (used < 65536)
+  stage-low (begins a b d e f g) = (omega arith, omega arith)
+  stage-low (goes-on a b d e f l) = (omega (arith, l .few f), omega (arith, l .near))
+
+  module _ {t : EntriesPut} {o₂ : List ℕ} where
+    pub stage-stopped : Stage s es n p k rs c o more from count used q o₁ → Listed s es from count rs used q t o₁ o₂ → not (t .quill .ok) ≡ true → Lists s es n p k rs c (t .quill) o o₂
+    stage-stopped (begins a b d e f g) m h = one-stopped s es n p k rs (rw (b, d, e, f, g) at m) (not-true (t .quill .ok) h)
+    stage-stopped (goes-on a b d e f l) m h = two-lists s es n p k rs l a f (rw (d, e) at m)
+
+    pub stage-last : Stage s es n p k rs c o more from count used q o₁ → Listed s es from count rs used q t o₁ o₂ → not more ≡ true → Lists s es n p k rs c (t .quill) o o₂
+    stage-last (begins a b d e f g) m h = one-list s es n p k rs (rw (b, d, e, f, g) at m) (sym a ∙ not-true more h)
+    stage-last (goes-on a b d e f l) m h = two-lists s es n p k rs l a f (rw (d, e) at m)
+
+    pub stage-next : Stage s es n p k rs c o more from count used q o₁ → Listed s es from count rs used q t o₁ o₂ → not (t .quill .ok) ≡ false → not more ≡ false
+        → Stage s es n p k rs c o false n k (t .used) (t .quill) o₂
+    stage-next (begins a b d e f g) m h i = goes-on (sym a ∙ not-false more i) refl refl refl (not-false (t .quill .ok) h) (rw (b, d, e, f, g) at m)
+    stage-next (goes-on a b d e f l) m h i = never (sym b ∙ not-false more i)
+
+pub last-less : (more : Bool) → not more ≡ false → bitOf false < bitOf more
+last-less true h = omega arith
+last-less false h = never (sym h)

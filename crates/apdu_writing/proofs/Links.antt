@@ -1,13 +1,16 @@
--- BST and VST: their leading parts, numbers of two and four octets, configuration, and lists of applications.
+-- BST and VST: numbers of two and four octets, configuration, the part before the lists, and the whole.
 -- Assumes nothing.
 use Prim.Native.Nat.{ℕ, _+_, _*_}
-use mathlib.Core.Path.{_≡_, refl, sym, _∙_}
+use mathlib.Core.Path.{_≡_, refl, ap, sym, subst, _∙_}
 use mathlib.Core.List.{List, [], _∷_, _++_}
 use mathlib.Core.Bool.{Bool, true, false, _&&_, not}
 use native.Mathlib.Omega.{arith}
-use lib.ListN.{length, take, drop}
-use lib.Dec.{ltb}
-use borrow.Author.Tests.{ltb-true, not-true, not-false}
+use denote.Enum.Declared as Declared
+use lib.ListN.{length, take}
+use lib.Dec.{T, ltb}
+use mir.Val.{hasKey}
+use types.Run.{OneOf, miss}
+use borrow.Author.Tests.{ltb-true}
 use Rattle.refusals.specs.Check.{firstOf}
 use Rattle.bits.specs.Bits.{writeField}
 use Rattle.bits.specs.Strings.{isInside}
@@ -21,14 +24,18 @@ use Rattle.apdu.specs.declared.lists.Row.{Row}
 use Rattle.apdu.specs.declared.lists.Entry.{Entry}
 use Rattle.apdu.specs.declared.records.Bst.{Bst}
 use Rattle.apdu.specs.declared.records.Vst.{Vst}
-use Rattle.apdu.specs.Values.{bitOf, num, if, idList, entriesValues, rowsOf, bstValues, vstValues}
-use Rattle.apdu.proofs.Laws.{and-unit, own-values, own-sound}
+use Rattle.apdu.specs.declared.records.Message.{Message}
+use Rattle.apdu.specs.declared.records.Message.the-variants as kind
+use Rattle.apdu.proofs.records.Message as message
+use Rattle.apdu.specs.Values.{bitOf, num, if, idList, bstValues, vstValues}
+use Rattle.apdu.proofs.Laws.{and-unit, own-sound}
+use Rattle.apdu.specs.Sound.{entriesSound, bstSound, vstSound}
 use Rattle.apdu_writing.specs.declared.quill.Quill.{Quill}
-use Rattle.apdu_writing.specs.declared.entries.EntriesPut.{EntriesPut}
-use Rattle.apdu.specs.Sound.{soundIf, entriesSound, bstSound, vstSound}
+use Rattle.apdu_writing.specs.declared.link.LinkFront.{LinkFront}
 use Rattle.apdu_writing.specs.Quill.{Put, Moves, Puts, Small}
-use Rattle.apdu_writing.specs.Applications.{Listed}
-use Rattle.apdu_writing.proofs.Chains.{nothing, idle, then, and-then}
+use Rattle.apdu_writing.specs.Applications.{Lists}
+use Rattle.apdu_writing.specs.Link.{bstFront, vstFront, configured, FrontPut, ByKind, LinkFrontPut, LinkTailPut, LinkPut}
+use Rattle.apdu_writing.proofs.Chains.{nothing, then, before, and-then}
 use Rattle.apdu_writing.proofs.Leaves.{packed, leaf, in-number}
 use Rattle.apdu_writing.proofs.Leads.{lead-by, is-set, bit-fits}
 
@@ -82,9 +89,9 @@ module _ (p : Bool) (n : ℕ) where
       → Puts true (class ∷ []) c r o o₃ (fields (bitOf p ∷ n ∷ []) ∷ fields (maker ∷ []) ∷ if p (fields (status ∷ []) ∷ []))
   configuration-by maker status q f m a b = then (class-lead q f m) (and-then a b)
 
--- ---- VST
+-- ---- the part before the lists
 
-module _ (s : List ℕ) (m : Vst) (es : List Entry) (rs : List Row) where
+module _ (m : Vst) where
   vst-lead : {z : ℕ} {c r : Quill} {o o' : List ℕ} → Small (m .fill) 16 z → Put 1 (ltb (m .fill) 16) c r (writeField o (8 * c .at) 8 (16 * 9 + z)) o o'
       → Moves true (choice ∷ []) ((integer ∷ []) ++ ((entryCount ∷ []) ++ ((class ∷ []) ++ []))) c r o o' (fields (9 ∷ []) ∷ fields (m .fill ∷ []) ∷ [])
   unfolding sum present layoutOf
@@ -96,34 +103,13 @@ module _ (s : List ℕ) (m : Vst) (es : List Entry) (rs : List Row) where
       fit : ltb (m .fill) 16 ≡ fieldsFit (4 ∷ []) (m .fill ∷ [])
       fit = unfold fieldsFit in sym (and-unit (ltb (m .fill) 16))
 
-  pub vst-by : {z : ℕ} {c d e r : Quill} {t : EntriesPut} {o o₁ o₂ o₃ o₄ : List ℕ} → Small (m .fill) 16 z → Put 1 (ltb (m .fill) 16) c d (writeField o (8 * c .at) 8 (16 * 9 + z)) o o₁
-      → Puts true (integer ∷ []) d e o₁ o₂ (num (m .profile) ∷ []) → Listed s es 0 (m .applications) rs 0 e t o₂ o₃
-      → Puts true (class ∷ []) (t .quill) r o₃ o₄ (fields (bitOf (m .«has_status») ∷ m .class ∷ []) ∷ fields (m .maker ∷ []) ∷ if (m .«has_status») (fields (m .status ∷ []) ∷ []))
-      → Puts (vstSound (length s) m es rs) (choice ∷ []) c r o o₄ (fields (9 ∷ []) ∷ vstValues s m es rs)
-  unfolding vstSound vstValues
-  vst-by {e = e} {r = r} {t = t} {o₂ = o₂} {o₃ = o₃} {o₄ = o₄} f p a b g =
-      let all = take (m .applications) es in
-      let own : Puts (entriesSound (length s) all rs) (entryCount ∷ []) e (t .quill) o₂ o₃ (num (m .applications) ∷ entriesValues s all (take (rowsOf all) rs)) =
-      rw (← own-values s all rs) (b .so) in
-      rw (← and-unit (entriesSound (length s) (take (m .applications) es) rs)) (then (vst-lead f p) (and-then a (and-then own (and-then g (nothing [] r o₄)))))
+  pub vst-front : {z : ℕ} {c d e : Quill} {o o₁ o₂ : List ℕ} → Small (m .fill) 16 z → Put 1 (ltb (m .fill) 16) c d (writeField o (8 * c .at) 8 (16 * 9 + z)) o o₁ → Puts true (integer ∷ []) d e o₁ o₂ (num (m .profile) ∷ [])
+      → FrontPut (m .applications) false 0 (class ∷ []) c (record { quill = e; first = m .applications; second = 0; two = false }) o o₂ (vstFront m)
+  vst-front f p a = record { so = then (vst-lead f p) (before (entryCount ∷ class ∷ []) a); first = refl; two = refl; second = refl }
 
--- ---- BST
-
-module _ (s : List ℕ) (m : Bst) (es : List Entry) (rs : List Row) where
-  abbrev first : List Entry
-  first = take (m .mandatory) es
-
+module _ (m : Bst) where
   abbrev fs : List ℕ
   fs = bitOf (m .«has_others») ∷ m .manufacturer ∷ m .individual ∷ []
-
-  abbrev S₁ : Bool
-  S₁ = entriesSound (length s) first (take (rowsOf first) rs)
-
-  abbrev S₂ : Bool
-  S₂ = soundIf (m .«has_others») (entriesSound (length s) (take (m .others) (drop (m .mandatory) es)) (drop (rowsOf first) rs))
-
-  abbrev S₃ : Bool
-  S₃ = isInside (length s) (m .profiles) (m .«profile_count»)
 
   bst-fit : (ltb (m .manufacturer) 65536 && ltb (m .individual) 134217728) ≡ fieldsFit (1 ∷ 16 ∷ 27 ∷ []) fs
   unfolding fieldsFit
@@ -143,37 +129,70 @@ module _ (s : List ℕ) (m : Bst) (es : List Entry) (rs : List Row) where
   unfolding present layoutOf
   bst-present = rw (is-set (m .«has_others»))
 
-  module _ {x y z : ℕ} {c d e f : Quill} {t : EntriesPut} {o o₁ o₂ o₃ o₄ : List ℕ} (p : x ≡ bitOf (m .«has_others»)) (q : Small (m .manufacturer) 65536 y)
-      (g : Small (m .individual) 134217728 z)
-      (put : Put 6 (ltb (m .manufacturer) 65536 && ltb (m .individual) 134217728) c d (writeField o (8 * c .at) 48 (17592186044416 * 8 + 8796093022208 * x + 134217728 * y + z)) o o₁)
-      (clock : Puts true (fixed 4 ∷ []) d e o₁ o₂ (fields (m .time ∷ []) ∷ [])) (profile : Puts true (integer ∷ []) e f o₂ o₃ (num (m .profile) ∷ []))
-      (list : Listed s es 0 (m .mandatory) rs 0 f t o₃ o₄) where
+  module _ {x y z : ℕ} {c d : Quill} {o o₁ : List ℕ} (p : x ≡ bitOf (m .«has_others»)) (q : Small (m .manufacturer) 65536 y) (g : Small (m .individual) 134217728 z)
+      (put : Put 6 (ltb (m .manufacturer) 65536 && ltb (m .individual) 134217728) c d (writeField o (8 * c .at) 48 (17592186044416 * 8 + 8796093022208 * x + 134217728 * y + z)) o o₁) where
     bst-lead : Moves true (choice ∷ []) ((fixed 4 ∷ []) ++ ((integer ∷ []) ++ ((entryCount ∷ []) ++ (when (m .«has_others») (entryCount ∷ []) ++ ((idCount ∷ []) ++ []))))) c d o o₁ (fields (8 ∷ []) ∷ fields fs ∷ [])
     bst-lead =
         rw (← bst-present)
         (lead-by 8 (1 ∷ 16 ∷ 27 ∷ []) fs (17592186044416 * 8 + 8796093022208 * x + 134217728 * y + z) (ltb (m .manufacturer) 65536 && ltb (m .individual) 134217728) 6 (omega arith)
         (unfold layoutOf in refl) (unfold sum in refl) (omega arith) bst-fit (bst-packed p q g) put)
 
-    own : Puts S₁ (entryCount ∷ []) f (t .quill) o₃ o₄ (num (m .mandatory) ∷ entriesValues s first (take (rowsOf first) rs))
-    own = rw (← own-sound (length s) first rs, ← own-values s first rs) (list .so)
+    pub bst-front : {e f : Quill} {o₂ o₃ : List ℕ} → Puts true (fixed 4 ∷ []) d e o₁ o₂ (fields (m .time ∷ []) ∷ []) → Puts true (integer ∷ []) e f o₂ o₃ (num (m .profile) ∷ [])
+        → FrontPut (m .mandatory) (m .«has_others») (m .others) (idCount ∷ []) c (record { quill = f; first = m .mandatory; second = m .others; two = m .«has_others» }) o o₃ (bstFront m)
+    bst-front clock profile =
+        record { so = then bst-lead (before ((entryCount ∷ []) ++ (when (m .«has_others») (entryCount ∷ []) ++ (idCount ∷ []))) (and-then clock profile)); first = refl; two = refl; second = refl }
 
-    pub bst-stopped : not (t .quill .ok) ≡ true → Puts (bstSound (length s) m es rs) (choice ∷ []) c (t .quill) o o₄ (fields (8 ∷ []) ∷ bstValues s m es rs)
-    unfolding bstSound bstValues
-    bst-stopped h = let no = not-true (t .quill .ok) h in then bst-lead (and-then clock (and-then profile (and-then own (idle no no))))
+-- ---- the whole
 
-    pub bst-by : {h r : Quill} {o₅ o₆ : List ℕ} → not (t .quill .ok) ≡ false
-        → Puts (soundIf (m .«has_others») (entriesSound (length s) (take (m .others) (drop (m .mandatory) es)) (drop (t .used) rs))) (when (m .«has_others») (entryCount ∷ [])) (t .quill) h o₄ o₅
-        (if (m .«has_others») (num (m .others) ∷ entriesValues s (take (m .others) (drop (m .mandatory) es)) (drop (t .used) rs)))
-        → Puts S₃ (idCount ∷ []) h r o₅ o₆ (idList s (m .profiles) (m .«profile_count»))
-        → Puts (bstSound (length s) m es rs) (choice ∷ []) c r o o₆ (fields (8 ∷ []) ∷ bstValues s m es rs)
-    unfolding bstSound bstValues
-    bst-by {h = h} {r = r} {o₅ = o₅} {o₆ = o₆} k a b =
-        let u : t .used ≡ rowsOf first = list .used (not-false (t .quill .ok) k) ∙ none (rowsOf first) in
-        let es₂ = take (m .others) (drop (m .mandatory) es) in
-        let rs₂ = drop (rowsOf first) rs in
-        let more : Puts S₂ (when (m .«has_others») (entryCount ∷ [])) (t .quill) h o₄ o₅ (if (m .«has_others») (num (m .others) ∷ entriesValues s es₂ (take (rowsOf es₂) rs₂))) =
-        rw (← own-values s es₂ rs₂) (rw u at a) in
-        rw (← and-unit S₃) (then bst-lead (and-then clock (and-then profile (and-then own (and-then more (and-then b (nothing [] r o₆)))))))
-      where
-        none : (n : ℕ) → 0 + n ≡ n
-        none n = omega arith
+module _ (s : List ℕ) (m : Vst) (es : List Entry) (rs : List Row) where
+  vst-by : {c h r : Quill} {f : LinkFront} {o o₁ o₂ o₃ : List ℕ} → FrontPut (m .applications) false 0 (class ∷ []) c f o o₁ (vstFront m)
+      → Lists s es (f .first) (f .two) (f .second) rs (f .quill) h o₁ o₂ → Puts true (class ∷ []) h r o₂ o₃ (configured m)
+      → Puts (vstSound (length s) m es rs) (choice ∷ []) c r o o₃ (fields (9 ∷ []) ∷ vstValues s m es rs)
+  unfolding vstSound vstValues
+  vst-by {h = h} {r = r} {f = f} {o₁ = o₁} {o₂ = o₂} {o₃ = o₃} a b g =
+      let l : Lists s es (m .applications) false 0 rs (f .quill) h o₁ o₂ = rw (a .first, a .two, a .second) at b in
+      rw (← and-unit (entriesSound (length s) (take (m .applications) es) rs)) (then (a .so) (and-then (l .first) (and-then (l .second) (and-then g (nothing [] r o₃)))))
+
+module _ (s : List ℕ) (m : Bst) (es : List Entry) (rs : List Row) where
+  abbrev first : List Entry
+  first = take (m .mandatory) es
+
+  abbrev S₃ : Bool
+  S₃ = isInside (length s) (m .profiles) (m .«profile_count»)
+
+  bst-by : {c h r : Quill} {f : LinkFront} {o o₁ o₂ o₃ : List ℕ}
+      → FrontPut (m .mandatory) (m .«has_others») (m .others) (idCount ∷ []) c f o o₁ (bstFront m)
+      → Lists s es (f .first) (f .two) (f .second) rs (f .quill) h o₁ o₂ → Puts S₃ (idCount ∷ []) h r o₂ o₃ (idList s (m .profiles) (m .«profile_count»))
+      → Puts (bstSound (length s) m es rs) (choice ∷ []) c r o o₃ (fields (8 ∷ []) ∷ bstValues s m es rs)
+  unfolding bstSound bstValues
+  bst-by {h = h} {r = r} {f = f} {o₁ = o₁} {o₂ = o₂} {o₃ = o₃} a b g =
+      let l : Lists s es (m .mandatory) (m .«has_others») (m .others) rs (f .quill) h o₁ o₂ = rw (a .first, a .two, a .second) at b in
+      rw (← own-sound (length s) first rs, ← and-unit S₃) (then (a .so) (and-then (l .first) (and-then (l .second) (and-then g (nothing [] r o₃)))))
+
+pub link-by : (s : List ℕ) (m : Message) (es : List Entry) (rs : List Row) {c h r : Quill} {f : LinkFront} {o o₁ o₂ o₃ : List ℕ} → LinkFrontPut m c f o o₁
+    → Lists s es (f .first) (f .two) (f .second) rs (f .quill) h o₁ o₂ → LinkTailPut s m h r o₂ o₃ → LinkPut s m es rs c r o o₃
+link-by s m es rs a b g = record { bst = λ x e. bst-by s x es rs (a .bst x e) b (g .bst x e); vst = λ x e. vst-by s x es rs (a .vst x e) b (g .vst x e) }
+
+-- ---- by kind
+
+module _ {P : Bst → Type 0} {Q : Vst → Type 0} {m : Message} where
+  pub is-bst : {x : Bst} → m ≡ kind.Bst x → P x → ByKind P Q m
+  is-bst {x = x} e p =
+      record {
+        bst = λ y f. let g : x ≡ y = cc in subst P g p;
+        vst = λ y f. let z : _≡_ {A = ℕ} 0 1 = cc in absurd (omega arith);
+      }
+
+  pub is-vst : {x : Vst} → m ≡ kind.Vst x → Q x → ByKind P Q m
+  is-vst {x = x} e q =
+      record {
+        bst = λ y f. let z : _≡_ {A = ℕ} 0 1 = cc in absurd (omega arith);
+        vst = λ y f. let g : x ≡ y = cc in subst Q g q;
+      }
+
+  -- the tag is one of another kind
+  pub is-other : OneOf (0 ∷ 1 ∷ 2 ∷ 3 ∷ 4 ∷ 5 ∷ 6 ∷ 7 ∷ []) (Declared.tagOf message.the-type m) → ByKind P Q m
+  is-other o = record { bst = λ y f. absurd (not-tag 8 (ap (Declared.tagOf message.the-type) f) tt); vst = λ y f. absurd (not-tag 9 (ap (Declared.tagOf message.the-type) f) tt) }
+    where
+      not-tag : (k : ℕ) → Declared.tagOf message.the-type m ≡ k → T (not (hasKey (0 ∷ 1 ∷ 2 ∷ 3 ∷ 4 ∷ 5 ∷ 6 ∷ 7 ∷ []) k)) → ⊥
+      not-tag k e n = miss (0 ∷ 1 ∷ 2 ∷ 3 ∷ 4 ∷ 5 ∷ 6 ∷ 7 ∷ []) k n (subst (OneOf (0 ∷ 1 ∷ 2 ∷ 3 ∷ 4 ∷ 5 ∷ 6 ∷ 7 ∷ [])) e o)

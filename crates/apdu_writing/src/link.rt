@@ -1,15 +1,13 @@
-// BST and VST behind their choice.
-ghost use mathlib.Core.Path.{_≡_};
-ghost use mathlib.Core.Bool.{true};
+// BST and VST: the part before their application lists, the lists, and the part behind them.
+ghost use mathlib.Core.Bool.{true, false};
 ghost use mathlib.Core.List.{[], _∷_};
-ghost use Prim.Native.Nat.{_<_, _≤_};
-ghost use lib.ListN.{length, take, drop};
-ghost use Rattle.apdu_format.specs.Component.{choice, fixed, class, entryCount};
+ghost use Rattle.apdu_format.specs.Component.{fixed, class, idCount};
 ghost use Rattle.apdu_format.specs.Rules.{when};
 ghost use Rattle.apdu_format.specs.Reading.{fields};
-ghost use Rattle.apdu.specs.Values.{bitOf, num, if, entriesValues, bstValues, vstValues};
-ghost use Rattle.apdu_writing.specs.Quill.{Moves, Puts};
-ghost use Rattle.apdu.specs.Sound.{soundIf, entriesSound, bstSound, vstSound};
+ghost use Rattle.apdu.specs.Values.{bitOf, if};
+ghost use Rattle.apdu_writing.specs.Quill.{Puts};
+ghost use Rattle.apdu_writing.specs.Applications.{Lists};
+ghost use Rattle.apdu_writing.specs.Link.{bstFront, vstFront, FrontPut, LinkFrontPut, LinkTailPut, LinkPut};
 use crate::component::number;
 use crate::counted::ids;
 use crate::entries::applications;
@@ -19,6 +17,7 @@ use crate::quill::Quill;
 use crate::quill::put;
 use apdu::Bst;
 use apdu::Entry;
+use apdu::Message;
 use apdu::Row;
 use apdu::Vst;
 
@@ -55,38 +54,16 @@ fn configuration(kind: u64, maker: u64, p: bool, status: u64, out: &mut [u8], c:
     word_if(p, status, out, e)
 }
 
-// The second list of a BST, if it is there: the n entries from `from` on.
-fn others(
-    p: bool,
-    lent: &[u8],
-    list: [Entry; 32],
-    from: u64,
-    n: u64,
-    table: [Row; 32],
-    first: usize,
-    out: &mut [u8],
-    c: Quill,
-) -> Quill
-    requires { ⌜ (from ≤ 16) × (first < 65536) ⌝ }
-    ensures { λ r. ⌜ Puts (soundIf p (entriesSound (length (now (lent .entry))) (take n (drop from list)) (drop first table))) (when p (entryCount ∷ [])) c r (now (out .entry)) (now (out .exit)) (if p (num n ∷ entriesValues (now (lent .entry)) (take n (drop from list)) (drop first table))) ⌝ }
-{
-    if p {
-        let t = applications(lent, list, from as usize, n, table, first, out, c);
-        let q = t.quill;
-        return q;
-    }
-    c
+// The quill behind the part before the lists; how many entries the lists have, and whether there are two.
+pub struct LinkFront {
+    pub quill: Quill,
+    pub first: u64,
+    pub second: u64,
+    pub two: bool,
 }
 
-pub(crate) fn bst(
-    lent: &[u8],
-    m: Bst,
-    list: [Entry; 32],
-    table: [Row; 32],
-    out: &mut [u8],
-    c: Quill,
-) -> Quill
-    ensures { λ r. ⌜ Puts (bstSound (length (now (lent .entry))) m list table) (choice ∷ []) c r (now (out .entry)) (now (out .exit)) (fields (8 ∷ []) ∷ bstValues (now (lent .entry)) m list table) ⌝ }
+fn bst_front(m: Bst, out: &mut [u8], c: Quill) -> LinkFront
+    ensures { λ r. ⌜ FrontPut (m .mandatory) (m .«has_others») (m .others) (idCount ∷ []) c r (now (out .entry)) (now (out .exit)) (bstFront m) ⌝ }
 {
     let v = 17592186044416 * 8
         + 8796093022208 * bit(m.has_others)
@@ -95,40 +72,100 @@ pub(crate) fn bst(
     let fine = (m.manufacturer < 65536) & (m.individual < 134217728);
     let d = put(out, 6, v, fine, c);
     let e = time(m.time, out, d);
-    let f = number(m.profile, out, e);
-    let t = applications(lent, list, 0, m.mandatory, table, 0, out, f);
-    let g = t.quill;
-    let used = t.used;
-    if !g.ok {
-        return g;
+    let quill = number(m.profile, out, e);
+    LinkFront {
+        quill,
+        first: m.mandatory,
+        second: m.others,
+        two: m.has_others,
     }
-    let h = others(
-        m.has_others,
-        lent,
-        list,
-        m.mandatory,
-        m.others,
-        table,
-        used,
-        out,
-        g,
-    );
-    ids(lent, m.profiles, m.profile_count, out, h)
 }
 
-pub(crate) fn vst(
+fn vst_front(m: Vst, out: &mut [u8], c: Quill) -> LinkFront
+    ensures { λ r. ⌜ FrontPut (m .applications) false 0 (class ∷ []) c r (now (out .entry)) (now (out .exit)) (vstFront m) ⌝ }
+{
+    let d = put(out, 1, 16 * 9 + small(m.fill, 16), m.fill < 16, c);
+    let quill = number(m.profile, out, d);
+    LinkFront {
+        quill,
+        first: m.applications,
+        second: 0,
+        two: false,
+    }
+}
+
+fn link_front(m: Message, out: &mut [u8], c: Quill) -> LinkFront
+    ensures { λ r. ⌜ LinkFrontPut m c r (now (out .entry)) (now (out .exit)) ⌝ }
+{
+    match m {
+        Message::Bst(x) => bst_front(x, out, c),
+        Message::Vst(x) => vst_front(x, out, c),
+        _ => LinkFront {
+            quill: c,
+            first: 0,
+            second: 0,
+            two: false,
+        },
+    }
+}
+
+fn link_tail(lent: &[u8], m: Message, out: &mut [u8], c: Quill) -> Quill
+    ensures { λ r. ⌜ LinkTailPut (now (lent .entry)) m c r (now (out .entry)) (now (out .exit)) ⌝ }
+{
+    match m {
+        Message::Bst(x) => ids(lent, x.profiles, x.profile_count, out, c),
+        Message::Vst(x) => configuration(x.class, x.maker, x.has_status, x.status, out, c),
+        _ => c,
+    }
+}
+
+// A list of n entries, and behind it, if p, one of k entries. The one call of `applications` is inlined: a call would copy both arrays.
+fn entry_lists(
     lent: &[u8],
-    m: Vst,
+    list: [Entry; 32],
+    n: u64,
+    p: bool,
+    k: u64,
+    table: [Row; 32],
+    out: &mut [u8],
+    c: Quill,
+) -> Quill
+    ensures { λ r. ⌜ Lists (now (lent .entry)) list n p k table c r (now (out .entry)) (now (out .exit)) ⌝ }
+{
+    let mut q = c;
+    let mut used: usize = 0;
+    let mut from: usize = 0;
+    let mut count = n;
+    let mut more = p;
+    loop {
+        let t = applications(lent, list, from, count, table, used, out, q);
+        q = t.quill;
+        used = t.used;
+        if !q.ok {
+            return q;
+        }
+        if !more {
+            return q;
+        }
+        from = n as usize;
+        count = k;
+        more = false;
+    }
+}
+
+// A BST or a VST.
+pub(crate) fn link_message(
+    lent: &[u8],
+    m: Message,
     list: [Entry; 32],
     table: [Row; 32],
     out: &mut [u8],
     c: Quill,
 ) -> Quill
-    ensures { λ r. ⌜ Puts (vstSound (length (now (lent .entry))) m list table) (choice ∷ []) c r (now (out .entry)) (now (out .exit)) (fields (9 ∷ []) ∷ vstValues (now (lent .entry)) m list table) ⌝ }
+    ensures { λ r. ⌜ LinkPut (now (lent .entry)) m list table c r (now (out .entry)) (now (out .exit)) ⌝ }
 {
-    let d = put(out, 1, 16 * 9 + small(m.fill, 16), m.fill < 16, c);
-    let e = number(m.profile, out, d);
-    let t = applications(lent, list, 0, m.applications, table, 0, out, e);
-    let f = t.quill;
-    configuration(m.class, m.maker, m.has_status, m.status, out, f)
+    let f = link_front(m, out, c);
+    let q = f.quill;
+    let h = entry_lists(lent, list, f.first, f.two, f.second, table, out, q);
+    link_tail(lent, m, out, h)
 }

@@ -1,5 +1,4 @@
 // A message of any kind.
-ghost use mathlib.Core.Path.{_≡_};
 ghost use mathlib.Core.List.{[], _∷_};
 ghost use lib.ListN.{length};
 ghost use Rattle.apdu_format.specs.Component.{choice};
@@ -12,8 +11,7 @@ use crate::kinds::get_response;
 use crate::kinds::request;
 use crate::kinds::response;
 use crate::kinds::set_request;
-use crate::link::bst;
-use crate::link::vst;
+use crate::link::link_message;
 use crate::quill::Quill;
 use apdu::Entry;
 use apdu::Message;
@@ -39,7 +37,6 @@ pub(crate) fn put_message(
         Message::SetResponse(x) => response(5, x, out, c),
         Message::GetRequest(x) => get_request(lent, x, out, c),
         Message::GetResponse(x) => get_response(lent, x, table, out, c),
-        Message::Bst(x) => bst(lent, x, list, table, out, c),
-        Message::Vst(x) => vst(lent, x, list, table, out, c),
+        _ => link_message(lent, m, list, table, out, c),
     }
 }

@@ -1,6 +1,6 @@
 -- Each kind is put by its function.
 -- Assumes nothing.
-use Rattle.apdu_writing.proofs.AnyKind.{put-0, put-1, put-2, put-3, put-4, put-5, put-6, put-7, put-8, put-9}
+use Rattle.apdu_writing.proofs.AnyKind.{put-0, put-1, put-2, put-3, put-4, put-5, put-6, put-7, put-link}
 use borrow.Author.Needs.{needs}
 use Rattle.apdu_writing.proofs.message.put_message.Statement.{statement}
 use Rattle.apdu_writing.proofs.message.put_message.Tie as tie
@@ -53,17 +53,8 @@ enum-known-m-8 c = search needs
 get-response-requires : tie.Need-get-response-requires
 get-response-requires c κs = search needs
 
-enum-known-m-9 : tie.Need-enum-known-m-9
-enum-known-m-9 c = search needs
-
-bst-requires : tie.Need-bst-requires
-bst-requires c κs = search needs
-
-enum-known-m-10 : tie.Need-enum-known-m-10
-enum-known-m-10 c = search needs
-
-vst-requires : tie.Need-vst-requires
-vst-requires c κs = search needs
+link-message-requires : tie.Need-link-message-requires
+link-message-requires c κs = search needs
 
 same-length : tie.Need-same-length
 same-length c = search needs
@@ -117,13 +108,7 @@ same-length-9 : tie.Need-same-length-9
 same-length-9 c = search needs
 
 returns-9 : tie.Need-returns-9
-returns-9 c = put-8 _ _ _ _ (c .before .before .before .before .before .m9 .given .1) (c .before .before .bst .ensures)
-
-same-length-10 : tie.Need-same-length-10
-same-length-10 c = search needs
-
-returns-10 : tie.Need-returns-10
-returns-10 c = put-9 _ _ _ _ (c .before .before .before .before .before .m10 .given .1) (c .before .before .vst .ensures)
+returns-9 c = put-link _ _ _ _ (c .before .before .before .before .match .keys9) (c .before .before .link-message .ensures)
 
 pub put-message-spec : {M : Type 1} → statement M
 put-message-spec =
@@ -145,10 +130,7 @@ put-message-spec =
     get-request-requires
     enum-known-m-8
     get-response-requires
-    enum-known-m-9
-    bst-requires
-    enum-known-m-10
-    vst-requires
+    link-message-requires
     same-length
     returns
     same-length-2
@@ -166,6 +148,4 @@ put-message-spec =
     same-length-8
     returns-8
     same-length-9
-    returns-9
-    same-length-10
-    returns-10)
+    returns-9)
