@@ -11,7 +11,7 @@ use lib.Seq.{take-all}
 use lib.Count.{ones}
 use lib.Dec.{eqb}
 use borrow.Author.Tests.{eq-eqb, ne-eqb, leb-false}
-use Rattle.refusals.specs.Check.{pick, Check, firstOf}
+use Rattle.refusals.specs.Check.{pick, Check, firstOf, Answer, refused, accepted}
 use Rattle.header.specs.Header.{headerLength}
 use Rattle.slots.specs.declared.Slot.{Slot}
 use Rattle.slots.specs.declared.Table.{Table}
@@ -25,10 +25,10 @@ use Rattle.reassembly.specs.declared.FragmentFields.{FragmentFields}
 use Rattle.reassembly.specs.declared.Facts.{Facts}
 use Rattle.reassembly.specs.declared.Arrival.{Arrival}
 use Rattle.reassembly.specs.declared.Change.{Change}
-use Rattle.reassembly.specs.declared.FragmentResult.{FragmentResult}
-use Rattle.reassembly.specs.declared.FragmentAnswer.the-variants.{Refused}
+use Rattle.reassembly.specs.declared.FragmentAnswer.{FragmentAnswer}
+use Rattle.reassembly.specs.declared.FragmentAnswer.the-variants.{Held, Whole, Refused}
 use Rattle.reassembly.specs.Checks.{fragmentIn, payloadOf, lsduChecks, headerChecks, pairChecks}
-use Rattle.reassembly.specs.Engine.{Outcome, slotFor, factsFrom, factsIn, fragmentRefusal, fragmentOf, fragmentAnswer, FragmentGives}
+use Rattle.reassembly.specs.Engine.{Outcome, Taken, slotFor, factsFrom, factsIn, fragmentRefusal, fragmentTaken, fragmentOf, fragmentAnswer, changedFor, changedBy, resultOf, FragmentGives}
 use Rattle.reassembly.specs.Accept.{AcceptAsks, outcomeOf, AcceptGives}
 use Rattle.reassembly.proofs.Joins.{lowest-is}
 use Rattle.reassembly.proofs.Passed.{Numbered, first-append, Passed, passed, valid-is, valid-refusal}
@@ -54,6 +54,23 @@ module _ (slots : List Slot) (i : ℕ) (n : length slots ≡ 8) (le : i ≤ 8) w
 
   held-in : getD slots i free .held ≤ 512 → 512 * i + getD slots i free .held ≤ 4096
   held-in h = ⊎-elim (λ g. omega (arith, ap (λ (s : Slot). s .held) (List·getD-eq-default slots free {n = i} (omega arith)))) (λ g. omega arith) (eq-or-lt-of-le le)
+
+-- ---- what is accepted changes its slot
+
+abbrev isAccepted : Answer Taken → Bool
+isAccepted (accepted x) = true
+isAccepted (refused n) = false
+
+taken-accepts : (last begins : Bool) (lid number tick : ℕ) (payload : List ℕ) (t : Table) (store output : List ℕ) → isAccepted (fragmentTaken last begins lid number tick payload t store output .answer) ≡ true
+unfolding fragmentTaken
+taken-accepts true begins lid number tick payload t store output = refl
+taken-accepts false begins lid number tick payload t store output = refl
+
+taken-changes : (a : FragmentAnswer) (before after : Table) → isAccepted (fragmentAnswer a) ≡ true → changedFor a before after ≡ after
+unfolding changedFor
+taken-changes (Held octets dropped) before after h = refl
+taken-changes (Whole octets dropped) before after h = refl
+taken-changes (Refused n) before after h = absurd (false≢true h)
 
 abbrev pub arrivalOf : ℕ → ℕ → FragmentFields → ℕ → Arrival
 arrivalOf lid tick f index = record { lid = lid; number = f .number; tick = tick; last = f .last; begins = eqb (f .counter) 0; index = index }
@@ -101,19 +118,24 @@ module _ {lid : ℕ} {lsdu : List ℕ} {t : Table} {store output : List ℕ} whe
 
   -- ---- refusals
 
-  pub refusal-gives : {tick n : ℕ} {r : FragmentResult} → number lid lsdu t store output ≡ n → (n ≡ 0 → ⊥)
-      → (r .answer ≡ Refused n) × (r .table ≡ t) → FragmentGives lid tick lsdu t store output r store output
-  unfolding fragmentOf
-  refusal-gives e z h =
+  pub refusal-gives : {tick n : ℕ} (r : Change) → number lid lsdu t store output ≡ n → (n ≡ 0 → ⊥) → r .answer ≡ Refused n
+      → FragmentGives lid tick lsdu t store output (resultOf t r) store output
+  unfolding fragmentOf changedFor
+  refusal-gives r e z h =
       let q = ne-eqb (number lid lsdu t store output) 0 (λ k. z (sym e ∙ k)) in
-      record { answer-is = rw q (ap fragmentAnswer (h .0) ∙ ap (λ (k : ℕ). fragmentAnswer (Refused k)) (sym e)); table-is = rw q (h .1); store-is = rw q; output-is = rw q }
+      record {
+        answer-is = rw q (ap fragmentAnswer h ∙ ap (λ (k : ℕ). fragmentAnswer (Refused k)) (sym e));
+        table-is = rw q (ap (λ (a : FragmentAnswer). changedFor a t (tableOf (set (t .slots) (r .index) (r .slot)))) h);
+        store-is = rw q;
+        output-is = rw q;
+      }
 
-  pub early-gives : {tick early : ℕ} {fine : Bool} {r : FragmentResult} → fine ≡ isSound t
+  pub early-gives : {tick early : ℕ} {fine : Bool} (r : Change) → fine ≡ isSound t
       → early ≡ firstOf (early-list lid lsdu t store output fine) → (early ≡ 0 → ⊥)
-      → (r .answer ≡ Refused early) × (r .table ≡ t) → FragmentGives lid tick lsdu t store output r store output
-  early-gives {early = early} sound first z h =
+      → r .answer ≡ Refused early → FragmentGives lid tick lsdu t store output (resultOf t r) store output
+  early-gives {early = early} r sound first z h =
       let e = first ∙ ap (λ (b : Bool). firstOf (early-list lid lsdu t store output b)) sound in
-      refusal-gives (by-lists lid lsdu t store output ∙ rw (sym e, ne-eqb early 0 z)) z h
+      refusal-gives r (by-lists lid lsdu t store output ∙ rw (sym e, ne-eqb early 0 z)) z h
 
   -- ---- no refusal
 
@@ -165,18 +187,28 @@ module _ {lid : ℕ} {lsdu : List ℕ} {t : Table} {store output : List ℕ} whe
     asks {tick = tick} low =
         coe 1 0 (k. AcceptAsks (arrivalOf lid tick (l .fields k) (l .found k)) (l .read k) (low k) (tail-is k) store output) (asks-at tick)
 
-    pub gives : {tick lowest : ℕ} {r : Change} {after : Table} {store' output' : List ℕ} → lowest ≡ lowestFree t
+    pub gives : {tick lowest : ℕ} {r : Change} {store' output' : List ℕ} → lowest ≡ lowestFree t
         → AcceptGives (arrivalOf lid tick f index) slot lowest (tailOf lsdu (f .octets)) store output r store' output'
-        → after ≡ tableOf (set (t .slots) (r .index) (r .slot))
-        → FragmentGives lid tick lsdu t store output (record { answer = r .answer; table = after }) store' output'
+        → FragmentGives lid tick lsdu t store output (resultOf t r) store' output'
     unfolding fragmentOf
-    gives {tick = tick} {r = r} {store' = store'} {output' = output'} low g e =
+    gives {tick = tick} {r = r} {store' = store'} {output' = output'} low g =
         let moved = coe 0 1 (k. AcceptGives (arrivalOf lid tick (l .fields k) (l .found k)) (l .read k) (low k) (tail-is k) store output r store' output') g in
-        let accepted = eq-eqb (number lid lsdu t store output) 0 (l .refusal ∙ no-late) in
-        let h : outcomeOf r t store' output' ≡ fragmentOf lid tick lsdu t store output = rw accepted (moved .outcome-is t refl refl refl) in
+        let none = eq-eqb (number lid lsdu t store output) 0 (l .refusal ∙ no-late) in
+        let m = moved .outcome-is t refl refl refl in
+        let fine : isAccepted (fragmentAnswer (r .answer)) ≡ true = ap (λ (o : Outcome). isAccepted (o .answer)) m ∙ taken-accepts _ _ _ _ _ _ _ _ _ in
+        let h : outcomeOf r t store' output' ≡ fragmentOf lid tick lsdu t store output = rw none m in
         record {
           answer-is = ap (λ (o : Outcome). o .answer) h;
-          table-is = e ∙ ap (λ (o : Outcome). o .table) h;
+          table-is = taken-changes (r .answer) t (tableOf (set (t .slots) (r .index) (r .slot))) fine ∙ ap (λ (o : Outcome). o .table) h;
           store-is = ap (λ (o : Outcome). o .store) h;
           output-is = ap (λ (o : Outcome). o .output) h;
         }
+
+-- the table after a change, by the answer
+pub changed-as : {a x : FragmentAnswer} (before after : Table) {r : Table} → a ≡ x → r ≡ changedFor x before after → r ≡ changedFor a before after
+changed-as before after e h = rw e h
+
+pub changed-gives : {lid tick : ℕ} {lsdu : List ℕ} {t : Table} {store output : List ℕ} (c : Change) {after : Table} {store' output' : List ℕ}
+    → FragmentGives lid tick lsdu t store output (resultOf t c) store' output' → after ≡ changedBy t c
+    → FragmentGives lid tick lsdu t store output (record { answer = c .answer; table = after }) store' output'
+changed-gives c g e = record { answer-is = g .answer-is; table-is = e ∙ g .table-is; store-is = g .store-is; output-is = g .output-is }

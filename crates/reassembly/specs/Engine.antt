@@ -15,6 +15,7 @@ use Rattle.reassembly.specs.declared.Facts.{Facts}
 use Rattle.reassembly.specs.declared.FragmentAnswer.{FragmentAnswer}
 use Rattle.reassembly.specs.declared.FragmentAnswer.the-variants.{Held, Whole, Refused}
 use Rattle.reassembly.specs.declared.FragmentResult.{FragmentResult}
+use Rattle.reassembly.specs.declared.Change.{Change}
 use Rattle.reassembly.specs.Checks.{fragmentIn, payloadOf, fragmentChecks}
 
 -- what an accepted fragment call answers: the message is held or whole, with its octets; and the octets dropped
@@ -96,6 +97,19 @@ abbrev pub fragmentAnswer : FragmentAnswer → Answer Taken
 fragmentAnswer (Held octets dropped) = accepted (held octets dropped)
 fragmentAnswer (Whole octets dropped) = accepted (whole octets dropped)
 fragmentAnswer (Refused number) = refused number
+
+-- the table after a change: its slot is set, unless the answer is a refusal
+unfoldable pub changedFor : FragmentAnswer → (before after : Table) → Table
+changedFor (Held octets dropped) before after = after
+changedFor (Whole octets dropped) before after = after
+changedFor (Refused number) before after = before
+
+abbrev pub changedBy : Table → Change → Table
+changedBy table c = changedFor (c .answer) table (tableOf (set (table .slots) (c .index) (c .slot)))
+
+-- the result that a change makes of a table
+abbrev pub resultOf : Table → Change → FragmentResult
+resultOf table c = record { answer = c .answer; table = changedBy table c }
 
 -- the contract: the result r, and store and output afterwards
 pub record FragmentGives (lid tick : ℕ) (lsdu : List ℕ) (table : Table) (store output : List ℕ) (r : FragmentResult) (store' output' : List ℕ) : Type 0 where

@@ -1,9 +1,10 @@
 // The fragment call: checks 1 to 12 in their order, then the fragment is taken.
 ghost use mathlib.Core.Path.{_≡_};
 ghost use Rattle.reassembly.specs.Checks.{fragmentIn};
-ghost use Rattle.reassembly.specs.Engine.{factsFrom, FragmentGives};
+ghost use Rattle.reassembly.specs.Engine.{factsFrom, changedBy, resultOf, FragmentGives};
 ghost use Rattle.reassembly.specs.Demand3.{Demanded};
 use crate::Arrival;
+use crate::Change;
 use crate::Facts;
 use crate::FragmentAnswer;
 use crate::FragmentFields;
@@ -49,12 +50,71 @@ fn facts_of(slot: Slot, table: Table) -> Facts
     }
 }
 
-fn refusal(number: u8, table: Table) -> FragmentResult
-    ensures { λ r. ⌜ (r .answer ≡ FragmentAnswer.Refused number) × (r .table ≡ table) ⌝ }
+fn refusal(number: u8) -> Change
+    ensures { λ r. ⌜ r .answer ≡ FragmentAnswer.Refused number ⌝ }
 {
-    FragmentResult {
+    Change {
         answer: FragmentAnswer::Refused(number),
-        table,
+        slot: slots::free_slot(),
+        index: slots::SLOTS,
+    }
+}
+
+// One fragment, of which the table is told by the one slot that changes: who keeps the table elsewhere writes that slot alone. Store and output are as after
+// `fragment`.
+pub fn fragment_change(
+    lid: u32,
+    tick: u32,
+    lsdu: &[u8],
+    table: Table,
+    store: &mut [u8],
+    output: &mut [u8],
+) -> Change
+    ensures { λ r. ⌜ FragmentGives lid tick (now (lsdu .entry)) table (now (store .entry)) (now (output .entry)) (resultOf table r) (now (store .exit)) (now (output .exit)) ⌝ }
+{
+    let early = lsdu_refusal(
+        store.len(),
+        output.len(),
+        slots::sound(table),
+        lid,
+        lsdu.len(),
+    );
+    if early != 0 {
+        return refusal(early);
+    }
+    let fragment = fragment_in(lsdu);
+    let number = fragment.number;
+    let index = slots::find(table, lid, number);
+    let slot = slots::slot_at(table, index);
+    let facts = facts_of(slot, table);
+    let late = fragment_refusal(fragment, facts);
+    if late != 0 {
+        return refusal(late);
+    }
+    let start = lsdu.len() - fragment.octets;
+    let payload = &lsdu[start..];
+    let arrival = Arrival {
+        lid,
+        number,
+        tick,
+        last: fragment.last,
+        begins: fragment.counter == 0,
+        index,
+    };
+    let lowest = slots::lowest_free(table);
+    accept(arrival, slot, lowest, payload, store, output)
+}
+
+// The table after a change.
+fn changed(table: Table, c: Change) -> Table
+    ensures { λ r. ⌜ r ≡ changedBy table c ⌝ }
+{
+    let answer = c.answer;
+    let slot = c.slot;
+    match answer {
+        FragmentAnswer::Held { octets, dropped } => slots::with_slot(table, c.index, slot),
+        FragmentAnswer::Whole { octets, dropped } => slots::with_slot(table, c.index, slot),
+        FragmentAnswer::Refused(_) => table,
     }
 }
 
@@ -70,39 +130,8 @@ pub fn fragment(
     ensures demand { λ _. ⌜ Demanded ⌝ }
     ensures answer { λ r. ⌜ FragmentGives lid tick (now (lsdu .entry)) table (now (store .entry)) (now (output .entry)) r (now (store .exit)) (now (output .exit)) ⌝ }
 {
-    let early = lsdu_refusal(
-        store.len(),
-        output.len(),
-        slots::sound(table),
-        lid,
-        lsdu.len(),
-    );
-    if early != 0 {
-        return refusal(early, table);
-    }
-    let fragment = fragment_in(lsdu);
-    let number = fragment.number;
-    let index = slots::find(table, lid, number);
-    let slot = slots::slot_at(table, index);
-    let facts = facts_of(slot, table);
-    let late = fragment_refusal(fragment, facts);
-    if late != 0 {
-        return refusal(late, table);
-    }
-    let start = lsdu.len() - fragment.octets;
-    let payload = &lsdu[start..];
-    let arrival = Arrival {
-        lid,
-        number,
-        tick,
-        last: fragment.last,
-        begins: fragment.counter == 0,
-        index,
-    };
-    let lowest = slots::lowest_free(table);
-    let change = accept(arrival, slot, lowest, payload, store, output);
-    let answer = change.answer;
-    let changed = change.slot;
-    let table = slots::with_slot(table, change.index, changed);
+    let c = fragment_change(lid, tick, lsdu, table, store, output);
+    let answer = c.answer;
+    let table = changed(table, c);
     FragmentResult { answer, table }
 }

@@ -57,14 +57,15 @@ pub(crate) struct Arrival {
     pub begins: bool,
 }
 
-// What such a fragment is answered, and the one slot that it changes: what it is then, and its index.
-pub(crate) struct Change {
+// What a fragment is answered, and the one slot that it changes unless it is refused: what it is then, and its index, which may be past the eight.
+pub struct Change {
     pub answer: FragmentAnswer,
     pub slot: Slot,
     pub index: usize,
 }
 
 pub use fragment_call::fragment;
+pub use fragment_call::fragment_change;
 pub use slots::empty;
 pub use slots::expire;
 pub use slots::held_for;
