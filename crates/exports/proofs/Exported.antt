@@ -3,21 +3,23 @@ use mathlib.Core.Path.{_≡_, refl, sym, ap, subst, _∙_}
 use mathlib.Core.Bool.{Bool, true, false, true≢false}
 use mathlib.Core.List.{List}
 use Prim.Native.Nat.{ℕ}
-use lib.ListN.{length}
+use lib.ListN.{length, set}
 use lib.Dec.{eqb}
 use borrow.Author.Tests.{eq-eqb, eqb-true, eqb-false}
 use Rattle.slots.specs.declared.Table.{Table}
 use Rattle.slots.specs.declared.SweepResult.{SweepResult}
 use Rattle.slots.specs.declared.SweepAnswer.{SweepAnswer}
-use Rattle.slots.specs.Slots.{isSound}
+use Rattle.slots.specs.Slots.{tableOf, isSound}
 use Rattle.slots.specs.Sweep.{ExpiryGives, ReleaseGives}
 use Rattle.reassembly.specs.declared.FragmentAnswer.{FragmentAnswer}
 use Rattle.reassembly.specs.declared.FragmentResult.{FragmentResult}
-use Rattle.reassembly.specs.Engine.{FragmentGives}
+use Rattle.reassembly.specs.declared.FragmentAnswer.the-variants as answer
+use Rattle.reassembly.specs.declared.Change.{Change}
+use Rattle.reassembly.specs.Engine.{changedFor, resultOf, FragmentGives}
 use Rattle.words.specs.TableWords.{tableIn, tableAfter, UnpackingPacked, WrongLength}
 use Rattle.words.proofs.TableLaws.{unpacking-packed, wrong-length, eight-in}
 use Rattle.exports.specs.Fragments.{keptWords, isTaken, fragmentNumber, FragmentExported, isSwept, sweepNumber, SweepExported, ExpiryExported, ReleaseExported}
-use Rattle.exports.specs.Putting.{keptTable, FragmentPut, SweepPut}
+use Rattle.exports.specs.Putting.{keptTable, keptChange, FragmentPut, SweepPut}
 use Rattle.exports.proofs.Staying.{Sound, fragment-stays, expiry-stays, release-stays}
 use Rattle.exports.proofs.Answering.{fragment-told, fragment-clear, fragment-same, SweepFacts, expiry-facts, release-facts}
 
@@ -85,12 +87,21 @@ module _ (lid tick : ℕ) (lsdu words store output store' output' : List ℕ) (c
         words-are = kept ∙ sym (ap (λ (t : Table). keptWords taken t words) back);
       }
 
-pub fragment-joined : (lid tick : ℕ) (lsdu words store output words' store' output' : List ℕ) (table : Table) (call : FragmentResult) (taken : Bool)
-    → table ≡ tableIn words → FragmentGives lid tick lsdu table store output call store' output' → taken ≡ isTaken (call .answer)
-    → words' ≡ keptTable taken (call .table) words → FragmentPut lid tick lsdu words store output (call .answer) words' store' output'
-fragment-joined lid tick lsdu words store output words' store' output' table call taken t g k w =
-    fragment-put lid tick lsdu words store output store' output' call
-    (subst (λ (x : Table). FragmentGives lid tick lsdu x store output call store' output') t g) words' (w ∙ ap (λ (b : Bool). keptTable b (call .table) words) k)
+-- a change that is put is the whole table put
+kept-change : (x : FragmentAnswer) (before after : Table) (words : List ℕ) → keptTable (isTaken x) after words ≡ keptTable (isTaken x) (changedFor x before after) words
+unfolding keptTable isTaken changedFor
+kept-change (answer.Held octets dropped) before after words = refl
+kept-change (answer.Whole octets dropped) before after words = refl
+kept-change (answer.Refused number) before after words = refl
+
+pub fragment-joined : (lid tick : ℕ) (lsdu words store output words' store' output' : List ℕ) (table : Table) (c : Change) (taken : Bool)
+    → table ≡ tableIn words → FragmentGives lid tick lsdu table store output (resultOf table c) store' output' → taken ≡ isTaken (c .answer)
+    → words' ≡ keptChange taken (c .index) (c .slot) words → FragmentPut lid tick lsdu words store output (c .answer) words' store' output'
+fragment-joined lid tick lsdu words store output words' store' output' table c taken t g k w =
+    let after = tableOf (set (tableIn words .slots) (c .index) (c .slot)) in
+    fragment-put lid tick lsdu words store output store' output' (resultOf (tableIn words) c)
+    (subst (λ (x : Table). FragmentGives lid tick lsdu x store output (resultOf x c) store' output') t g) words'
+    (w ∙ ap (λ (b : Bool). keptTable b after words) k ∙ kept-change (c .answer) (tableIn words) after words)
 
 pub fragment-exported : (lid tick : ℕ) (lsdu words store output : List ℕ) (r : ℕ) (words' store' output' : List ℕ) (x : FragmentAnswer)
     → FragmentPut lid tick lsdu words store output x words' store' output' → r ≡ fragmentNumber x → FragmentExported lid tick lsdu words store output r words' store' output'

@@ -4,9 +4,12 @@ use Prim.Native.Nat.{ℕ}
 use mathlib.Core.Path.{_≡_}
 use mathlib.Core.Bool.{Bool}
 use mathlib.Core.List.{List}
+use lib.ListN.{set}
 use Rattle.refusals.specs.Check.{pick}
 use Rattle.slots.specs.declared.SweepResult.{SweepResult}
+use Rattle.slots.specs.declared.Slot.{Slot}
 use Rattle.slots.specs.declared.Table.{Table}
+use Rattle.slots.specs.Slots.{tableOf}
 use Rattle.reassembly.specs.declared.FragmentAnswer.{FragmentAnswer}
 use Rattle.reassembly.specs.Engine.{FragmentGives}
 use Rattle.bench_lines.specs.Line.{readLine}
@@ -18,6 +21,10 @@ use Rattle.exports.specs.BenchLine.{lsduRoom, isAccepted}
 
 unfoldable pub keptTable : (taken : Bool) → Table → List ℕ → List ℕ
 keptTable taken table words = pick taken (tableAfter table words) words
+
+-- with one slot of the words' table changed
+abbrev pub keptChange : (taken : Bool) → ℕ → Slot → List ℕ → List ℕ
+keptChange taken i slot words = keptTable taken (tableOf (set (tableIn words .slots) i slot)) words
 
 -- a fragment: the table after the call is that of the words, and an accepted call has put it
 pub record FragmentPut (lid tick : ℕ) (lsdu words store output : List ℕ) (r : FragmentAnswer) (words' store' output' : List ℕ) : Type 0 where

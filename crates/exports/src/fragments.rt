@@ -1,12 +1,13 @@
 // Joining: the table lives in 41 words, all zero at first, and the store and output are lent.
 ghost use mathlib.Core.Path.{_≡_};
 ghost use Rattle.exports.specs.Fragments.{isTaken, fragmentNumber, FragmentExported, ExpiryExported, ReleaseExported};
-ghost use Rattle.exports.specs.Putting.{keptTable, FragmentPut, SweepPut};
+ghost use Rattle.exports.specs.Putting.{keptChange, FragmentPut, SweepPut};
 use reassembly::FragmentAnswer;
+use slots::Slot;
 use slots::SweepAnswer;
 use slots::SweepResult;
-use slots::Table;
 use words::packed;
+use words::put_change;
 use words::put_table;
 use words::table_in;
 
@@ -30,14 +31,14 @@ fn fragment_number(answer: FragmentAnswer) -> u64
     }
 }
 
-// Puts the table of an accepted call; after a refusal the words stay as they were.
-fn keep_table(accepted: bool, after: Table, table: &mut [u32])
-    ensures { λ _. ⌜ now (table .exit) ≡ keptTable accepted after (now (table .entry)) ⌝ }
+// Puts the slot that an accepted call has changed; after a refusal the words stay as they were.
+fn keep_change(accepted: bool, i: usize, slot: Slot, table: &mut [u32])
+    ensures { λ _. ⌜ now (table .exit) ≡ keptChange accepted i slot (now (table .entry)) ⌝ }
 {
     if !accepted {
         return;
     }
-    put_table(after, table);
+    put_change(i, slot, table);
 }
 
 // One fragment over the table's words. The exported calls that join share it, so that the fragment call has one caller here and is inlined. The slices that come
@@ -52,10 +53,10 @@ pub(crate) fn joined(
 ) -> FragmentAnswer
     ensures { λ r. ⌜ FragmentPut lid tick (now (lsdu .entry)) (now (table .entry)) (now (store .entry)) (now (out .entry)) r (now (table .exit)) (now (store .exit)) (now (out .exit)) ⌝ }
 {
-    let result = reassembly::fragment(lid, tick, lsdu, table_in(table), store, out);
-    let answer = result.answer;
-    let after = result.table;
-    keep_table(taken(answer), after, table);
+    let c = reassembly::fragment_change(lid, tick, lsdu, table_in(table), store, out);
+    let answer = c.answer;
+    let slot = c.slot;
+    keep_change(taken(answer), c.index, slot, table);
     answer
 }
 

@@ -7,14 +7,14 @@ use Rattle.exports.proofs.fragments.joined.Tie as tie
 table-in-requires : tie.Need-table-in-requires
 table-in-requires c κs = search needs
 
-fragment-requires : tie.Need-fragment-requires
-fragment-requires c κs = search needs
+fragment-change-requires : tie.Need-fragment-change-requires
+fragment-change-requires c κs = search needs
 
 taken-requires : tie.Need-taken-requires
 taken-requires c κs = search needs
 
-keep-table-requires : tie.Need-keep-table-requires
-keep-table-requires c κs = search needs
+keep-change-requires : tie.Need-keep-change-requires
+keep-change-requires c κs = search needs
 
 same-length : tie.Need-same-length
 same-length c = search needs
@@ -29,17 +29,17 @@ returns : tie.Need-returns
 returns c =
     let c10 = c .before .before .before .before .before .before .before .before .before .before in
     let c13 = c10 .before .before .before in
-    fragment-joined _ _ _ _ _ _ _ _ _ (c13 .table-in .result) (c10 .fragment .result) _ (c13 .table-in .ensures) (c10 .fragment .ensures .1)
-    (c .before .before .before .before .taken .ensures) (c .before .before .keep-table .ensures)
+    fragment-joined _ _ _ _ _ _ _ _ _ (c13 .table-in .result) (c10 .fragment-change .result) _ (c13 .table-in .ensures) (c10 .fragment-change .ensures)
+    (c .before .before .before .before .taken .ensures) (c .before .before .keep-change .ensures)
 
 pub joined-spec : {M : Type 1} → statement M
 joined-spec =
     tie.close
     (tie.spec
     table-in-requires
-    fragment-requires
+    fragment-change-requires
     taken-requires
-    keep-table-requires
+    keep-change-requires
     same-length
     same-length-2
     same-length-3
