@@ -4,6 +4,7 @@ use Prim.Native.Nat.{ℕ, _*_, _/_, _≤_, _<_}
 use mathlib.Core.Path.{_≡_, refl, ap, sym, _∙_}
 use mathlib.Core.List.{List, [], _∷_}
 use mathlib.Core.Bool.{true, false}
+use mathlib.Core.Logic.{_⊎_, inl, inr}
 use native.Mathlib.Omega.{arith}
 use lib.ListN.{length}
 use lib.Dec.{eqb, ltb}
@@ -18,11 +19,12 @@ use Rattle.apdu.specs.declared.lists.Lists.{Lists}
 use Rattle.apdu.specs.declared.records.Message.{Message}
 use Rattle.apdu.specs.Values.{valuesOf}
 use Rattle.apdu_reading.specs.declared.cursor.Cursor.{Cursor}
+use Rattle.apdu_reading.specs.declared.front.Answer.{Answer}
 use Rattle.apdu_reading.specs.declared.front.Answer.the-variants as answer
 use Rattle.apdu_reading.specs.declared.front.Reading.{Reading}
 use Rattle.apdu_reading.specs.Cursor.{cursor, stateOf, component, Reads}
 use Rattle.apdu_reading.specs.Messages.{MessageRead}
-use Rattle.apdu_reading.specs.Answers.{told, outcomeOf, tidyBy, Tidy, soundBy, SoundRecord, refusal, first, endedBy, Answered}
+use Rattle.apdu_reading.specs.Answers.{told, outcomeOf, tidyBy, Tidy, soundBy, SoundRecord, noLists, refusal, first, endedBy, answerOf, placeOf, Answered}
 use Rattle.apdu_reading.proofs.Pieces.{sees}
 use Rattle.apdu_reading.proofs.Chains.{itself, enter}
 use Rattle.apdu_reading.proofs.Boxes.{unused}
@@ -120,3 +122,10 @@ module _ (s : List ℕ) (short : length s ≤ longestMessage) (r : Cursor) where
           tidy = record { is = p .tidy (w .0) };
           sound = record { is = p .sound (w .0) };
         })
+
+    -- both by one end: a refusal's lists are cleared, a message's are kept
+    pub message-told : {a : Answer} → a ≡ answerOf e m → {k : ℕ} → k ≡ placeOf e → {t : Lists}
+        → ((e .fault ≡ 0 → ⊥) × (t ≡ noLists)) ⊎ ((e .fault ≡ 0) × (t ≡ l)) → Answered s (record { answer = a; end = k; lists = t })
+    unfolding refusal answerOf placeOf
+    message-told i j (inl w) = message-refused (w .0) (rw (i, j, w .1, ne-eqb _ _ (w .0)))
+    message-told i j (inr w) = rw (i, j, w .1, eq-eqb _ _ (w .0)) (message-answered (w .0) refl refl)

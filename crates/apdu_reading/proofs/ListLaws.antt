@@ -122,8 +122,7 @@ module _ (s : List ℕ) (p : Bool) (c : Cursor) {rows : List Row} {es : List Ent
       sym (take-append-drop m (take (m + o) (r .entries))) ∙ ap (λ (l : List Entry). l ++ new) (take-take m (m + o) (r .entries) (omega arith)) in
       rw (w, rows-of-append, first-count) (b .second .stored .rows)
 
-  pub both-whole : ListsWhole s p c
-      (record { cursor = r .rows .cursor; mandatory = m; others = o; lists = record { entries = r .entries; rows = r .rows .rows } })
+  pub both-whole : ListsWhole s p c m o (r .rows .cursor) (record { entries = r .entries; rows = r .rows .rows })
   both-whole =
       let q = b .second .stored in
       let first = list-reads s true 0 (apps c rows es) m before (b .first) in

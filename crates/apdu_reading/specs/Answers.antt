@@ -64,6 +64,13 @@ pub record Chosen (s : List ℕ) (c : Cursor) : Type 0 where
 unfoldable pub endedBy : List ℕ → Cursor → Cursor
 endedBy s c = pick (eqb (c .fault) 0) (pick (ltb (c .at) (8 * length s)) (cursor (c .at) (c .begun) (c .room) 14 (c .at / 8) 0 0) c) c
 
+-- what is answered where a message ends at c, and the place behind it
+unfoldable pub answerOf : Cursor → Message → Answer
+answerOf c m = pick (eqb (c .fault) 0) (answer.Message m) (answer.Refused (c .fault) (c .position))
+
+unfoldable pub placeOf : Cursor → ℕ
+placeOf c = pick (eqb (c .fault) 0) (c .at) 0
+
 -- what read ensures
 pub record Answered (s : List ℕ) (r : Reading) : Type 0 where
   pub outcome : outcomeOf s r ≡ readMessage s

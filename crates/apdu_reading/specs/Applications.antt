@@ -10,6 +10,7 @@ use Rattle.apdu_format.specs.Reading.{Value, fields}
 use Rattle.apdu_format.specs.Rules.{when, times}
 use Rattle.apdu.specs.declared.lists.Row.{Row}
 use Rattle.apdu.specs.declared.lists.Entry.{Entry}
+use Rattle.apdu.specs.declared.lists.Lists.{Lists}
 use Rattle.apdu.specs.Values.{bitOf, num-if, if, entryValues, entryRows, rowsOf, listValues}
 use Rattle.apdu.specs.Tidy.{Absent, startTidy, RowsTidy, entryTidy, ListsTidy}
 use Rattle.apdu.specs.Sound.{partFits, nested, entrySound, entriesSound}
@@ -17,7 +18,6 @@ use Rattle.apdu_reading.specs.declared.cursor.Cursor.{Cursor}
 use Rattle.apdu_reading.specs.declared.rows.Rows.{Rows}
 use Rattle.apdu_reading.specs.declared.applications.EntryHead.{EntryHead}
 use Rattle.apdu_reading.specs.declared.applications.EntryRead.{EntryRead}
-use Rattle.apdu_reading.specs.declared.applications.ListsRead.{ListsRead}
 use Rattle.apdu_reading.specs.declared.link.Configuration.{Configuration}
 use Rattle.apdu_reading.specs.Cursor.{Reads}
 use Rattle.apdu.specs.RowCounters.{row}
@@ -65,24 +65,24 @@ pub record CountMaybe (s : List ℕ) (p : Bool) (c r : Cursor) : Type 0 where
   pub absent : p ≡ false → r .value ≡ 0
 
 -- the entries of the first list, those of the second, and the rows of the second
-abbrev pub firstEntries : ListsRead → List Entry
-firstEntries r = take (r .mandatory) (r .lists .entries)
+abbrev pub firstEntries : ℕ → Lists → List Entry
+firstEntries m l = take m (l .entries)
 
-abbrev pub otherEntries : ListsRead → List Entry
-otherEntries r = take (r .others) (drop (r .mandatory) (r .lists .entries))
+abbrev pub otherEntries : ℕ → ℕ → Lists → List Entry
+otherEntries m o l = take o (drop m (l .entries))
 
-abbrev pub otherRows : ListsRead → List Row
-otherRows r = drop (rowsOf (firstEntries r)) (r .lists .rows)
+abbrev pub otherRows : ℕ → Lists → List Row
+otherRows m l = drop (rowsOf (firstEntries m l)) (l .rows)
 
--- the application lists of a message, of which the second is there if p says so; with whatever is read behind them
-pub record ListsWhole (s : List ℕ) (p : Bool) (c : Cursor) (r : ListsRead) : Type 0 where
-  pub reads : {is : List Component} {q : Cursor} {vs : List Value} → Reads s is (r .cursor) q vs
+-- the application lists of a message, of m entries and of o, from c to e; the second is there if p says so; with whatever is read behind them
+pub record ListsWhole (s : List ℕ) (p : Bool) (c : Cursor) (m o : ℕ) (e : Cursor) (l : Lists) : Type 0 where
+  pub reads : {is : List Component} {q : Cursor} {vs : List Value} → Reads s is e q vs
       → Reads s (entryCount ∷ (when p (entryCount ∷ []) ++ is)) c q
-      (listValues s (r .mandatory) (firstEntries r) (r .lists .rows) ++ (if p (listValues s (r .others) (otherEntries r) (otherRows r)) ++ vs))
-  pub first : r .cursor .fault ≡ 0 → entriesSound (length s) (firstEntries r) (take (rowsOf (firstEntries r)) (r .lists .rows)) ≡ true
-  pub second : r .cursor .fault ≡ 0 → entriesSound (length s) (otherEntries r) (otherRows r) ≡ true
-  pub tidy : r .cursor .fault ≡ 0 → ListsTidy (r .mandatory + r .others) (r .lists .entries) (r .lists .rows)
-  pub absent : p ≡ false → r .others ≡ 0
+      (listValues s m (firstEntries m l) (l .rows) ++ (if p (listValues s o (otherEntries m o l) (otherRows m l)) ++ vs))
+  pub first : e .fault ≡ 0 → entriesSound (length s) (firstEntries m l) (take (rowsOf (firstEntries m l)) (l .rows)) ≡ true
+  pub second : e .fault ≡ 0 → entriesSound (length s) (otherEntries m o l) (otherRows m l) ≡ true
+  pub tidy : e .fault ≡ 0 → ListsTidy (m + o) (l .entries) (l .rows)
+  pub absent : p ≡ false → o ≡ 0
 
 -- the configuration of a VST
 pub record ConfigurationRead (s : List ℕ) (c : Cursor) (r : Configuration) : Type 0 where

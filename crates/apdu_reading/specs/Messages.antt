@@ -55,7 +55,7 @@ pub record FrontRead (s : List ℕ) (f : LinkFront) : Type 0 where
 
 -- whatever the entries and their rows are, with them the message is read
 pub record EndRead (s : List ℕ) (f : LinkFront) (mandatory others : ℕ) (c : Cursor) (r : LinkEnd) : Type 0 where
-  pub whole : {l : Lists} → ListsWhole s (f .«has_others») (f .cursor) (record { cursor = c; mandatory = mandatory; others = others; lists = l })
+  pub whole : {l : Lists} → ListsWhole s (f .«has_others») (f .cursor) mandatory others c l
       → MessageRead s (r .cursor) (r .message) l
 
 -- ---- services: a message up to its rows, and the message once they and the number behind them are read

@@ -2,11 +2,19 @@
 ghost use mathlib.Core.Path.{_≡_};
 ghost use Prim.Native.Nat.{_≤_};
 ghost use lib.ListN.{length};
-ghost use Rattle.apdu_reading.specs.Applications.{EntryOpens, Open, EntryWhole, CountMaybe, ListsWhole};
+ghost use Rattle.apdu_reading.specs.Applications.{EntryOpens, Open, EntryWhole, CountMaybe};
+ghost use Rattle.apdu_reading.specs.Messages.{FrontRead};
+ghost use Rattle.apdu_reading.specs.Answers.{noLists, Answered};
 use crate::component::count;
 use crate::component::entry_octet;
 use crate::cursor::Cursor;
 use crate::cursor::marked;
+use crate::front::Reading;
+use crate::front::answer_of;
+use crate::front::ended;
+use crate::front::place_of;
+use crate::link::LinkFront;
+use crate::link::link_end;
 use crate::optional::container_if;
 use crate::optional::integer_if;
 use crate::rows::Rows;
@@ -102,21 +110,23 @@ pub(crate) fn count_if(s: &[u8], p: bool, c: Cursor) -> Cursor
     marked(c, 0, 0)
 }
 
-// The application lists of a message: how many entries each has, and the entries one behind the other with their rows.
-pub struct ListsRead {
-    pub cursor: Cursor,
-    pub mandatory: u64,
-    pub others: u64,
-    pub lists: Lists,
+// The lists beside a refusal.
+fn cleared() -> Lists
+    ensures { λ r. ⌜ r ≡ noLists ⌝ }
+{
+    let entries = no_entries();
+    let rows = no_rows();
+    Lists { entries, rows }
 }
 
-// A list, and behind it a second one if it is there. In a round `others` counts the list that is read, `mandatory` the entries before it, which are 0 for the
-// first. One loop reads the entries of both, so that what it calls once becomes part of it.
-pub(crate) fn application_lists(s: &[u8], second: bool, c: Cursor) -> ListsRead
-    requires { ⌜ (length (now s) ≤ 512) × (c .room ≡ 32) ⌝ }
-    ensures { λ r. ⌜ ListsWhole (now (s .entry)) second c r ⌝ }
+// A message from its application lists on: a list, and behind it a second one if it is there. In a round `others` counts the list that is read, `mandatory`
+// the entries before it, which are 0 for the first. One loop reads the entries of both, so that what it calls once becomes part of it. The lists are locals
+// up to the one return, and a refusal clears them in place, so that they are not copied again.
+pub(crate) fn application_lists(s: &[u8], f: LinkFront) -> Reading
+    requires { ⌜ (length (now s) ≤ 512) × FrontRead (now s) f ⌝ }
+    ensures { λ r. ⌜ Answered (now (s .entry)) r ⌝ }
 {
-    let mut cursor = c;
+    let mut cursor = f.cursor;
     let mut used: u64 = 0;
     let entries = no_entries();
     let rows = no_rows();
@@ -125,7 +135,7 @@ pub(crate) fn application_lists(s: &[u8], second: bool, c: Cursor) -> ListsRead
     let mut others: u64 = 0;
     let mut round: u64 = 0;
     while round < 2 {
-        cursor = count_if(s, (round == 0) | second, cursor);
+        cursor = count_if(s, (round == 0) | f.has_others, cursor);
         mandatory += others;
         others = cursor.value;
         round += 1;
@@ -150,10 +160,13 @@ pub(crate) fn application_lists(s: &[u8], second: bool, c: Cursor) -> ListsRead
             }
         }
     }
-    ListsRead {
-        cursor,
-        mandatory,
-        others,
-        lists,
+    let e = link_end(s, f, mandatory, others, cursor);
+    let end = ended(s, e.cursor);
+    let message = e.message;
+    if end.fault != 0 {
+        lists = cleared();
     }
+    let answer = answer_of(end, message);
+    let end = place_of(end);
+    Reading { answer, end, lists }
 }

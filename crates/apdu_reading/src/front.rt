@@ -4,7 +4,7 @@ ghost use Prim.Native.Nat.{_≤_};
 ghost use lib.ListN.{length};
 ghost use Rattle.apdu_format.specs.Component.{choice};
 ghost use Rattle.apdu_reading.specs.Cursor.{component};
-ghost use Rattle.apdu_reading.specs.Answers.{refusal, first, endedBy};
+ghost use Rattle.apdu_reading.specs.Answers.{refusal, first, endedBy, answerOf, placeOf};
 use crate::component::choice;
 use crate::cursor::Cursor;
 use apdu::Lists;
@@ -76,4 +76,24 @@ pub(crate) fn ended(s: &[u8], c: Cursor) -> Cursor
         value: 0,
         start: 0,
     }
+}
+
+// What is answered where a message ends so: the message, unless there is a fault.
+pub(crate) fn answer_of(end: Cursor, m: Message) -> Answer
+    ensures { λ r. ⌜ r ≡ answerOf end m ⌝ }
+{
+    if end.fault != 0 {
+        return Answer::Refused(end.fault, end.position);
+    }
+    Answer::Message(m)
+}
+
+// The place behind the message, 0 beside a refusal.
+pub(crate) fn place_of(end: Cursor) -> usize
+    ensures { λ r. ⌜ r ≡ placeOf end ⌝ }
+{
+    if end.fault != 0 {
+        return 0;
+    }
+    end.at
 }

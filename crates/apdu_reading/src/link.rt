@@ -9,10 +9,7 @@ use crate::component::id_list;
 use crate::component::integer;
 use crate::cursor::Cursor;
 use crate::cursor::piece;
-use crate::front::Answer;
 use crate::front::Reading;
-use crate::front::ended;
-use crate::front::refused;
 use crate::services::flag;
 use apdu::Bst;
 use apdu::Message;
@@ -154,17 +151,5 @@ pub(crate) fn link(s: &[u8], c: Cursor) -> Reading
     ensures { λ r. ⌜ Answered (now (s .entry)) r ⌝ }
 {
     let f = link_front(s, c);
-    let a = application_lists(s, f.has_others, f.cursor);
-    let e = link_end(s, f, a.mandatory, a.others, a.cursor);
-    let end = ended(s, e.cursor);
-    if end.fault != 0 {
-        return refused(end.fault, end.position);
-    }
-    let message = e.message;
-    let lists = a.lists;
-    Reading {
-        answer: Answer::Message(message),
-        end: end.at,
-        lists,
-    }
+    application_lists(s, f)
 }
