@@ -48,12 +48,10 @@ slotIn words at = record {
   tick = getD words (at + 4) 0;
 }
 
-abbrev pub busyIn : List ℕ → ℕ
-busyIn words = pick (eqb (length words) tableLength) (getD words 0 0) (2 ^ 32 - 1)
-
-unfoldable pub tableIn : List ℕ → Table
-tableIn words = record {
-  busy = busyIn words;
+-- the table of 41 words
+abbrev pub tableHeld : List ℕ → Table
+tableHeld words = record {
+  busy = getD words 0 0;
   slots =
       slotIn words 1
       ∷ slotIn words 6
@@ -65,6 +63,13 @@ tableIn words = record {
       ∷ slotIn words 36
       ∷ [];
 }
+
+-- what words of another length are: free slots, and a busy word that no sound table has
+abbrev pub noTable : Table
+noTable = record { busy = 2 ^ 32 - 1; slots = emptyTable .slots }
+
+unfoldable pub tableIn : List ℕ → Table
+tableIn words = pick (eqb (length words) tableLength) (tableHeld words) noTable
 
 -- ---- laws (proofs/TableLaws.antt proves each)
 

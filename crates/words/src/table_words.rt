@@ -1,7 +1,7 @@
 // The table of slots as 41 words: the busy word, then LID, number, next counter, octets held and tick of each slot.
 ghost use mathlib.Core.Path.{_≡_};
 ghost use Prim.Native.Nat.{_≤_};
-ghost use Rattle.words.specs.TableWords.{slotPut, slotIn, busyIn, tableIn, tableAfter};
+ghost use Rattle.words.specs.TableWords.{slotPut, slotIn, tableIn, tableAfter};
 use crate::word::put;
 use crate::word::word;
 use slots::Slot;
@@ -26,21 +26,18 @@ fn slot_in(words: &[u32], at: usize) -> Slot
     }
 }
 
-// The busy word; where there are not 41 words, one that no sound table has.
-fn busy_in(words: &[u32]) -> u32
-    ensures { λ r. ⌜ r ≡ busyIn (now (words .entry)) ⌝ }
-{
-    if words.len() != TABLE_WORDS {
-        return NOT_SOUND;
-    }
-    word(words, 0)
-}
-
 // The table that the words are; one that is not sound where there are not 41 of them.
 pub fn table_in(words: &[u32]) -> Table
     ensures { λ r. ⌜ r ≡ tableIn (now (words .entry)) ⌝ }
 {
-    let busy = busy_in(words);
+    if words.len() != TABLE_WORDS {
+        let none = [slots::free_slot(); 8];
+        return Table {
+            busy: NOT_SOUND,
+            slots: none,
+        };
+    }
+    let busy = word(words, 0);
     let slots = [
         slot_in(words, 1),
         slot_in(words, 6),
