@@ -5,6 +5,7 @@ use mathlib.Core.List.{[], _∷_}
 use Prim.Native.Nat.{_-_, _^_}
 use Rattle.slots.specs.declared.Slot.{Slot}
 use Rattle.slots.specs.declared.Table.{Table}
+use Rattle.words.specs.TableWords.{slotsIn}
 use Rattle.words.proofs.TableLaws.{held-in, none-in}
 use borrow.Author.Needs.{needs}
 use Rattle.words.proofs.table_words.table_in.Statement.{statement}
@@ -48,6 +49,7 @@ slot-in-requires-8 : tie.Need-slot-in-requires-8
 slot-in-requires-8 c κs = search needs
 
 returns-2 : tie.Need-returns-2
+unfolding slotsIn
 returns-2 c =
     let c4 = c .before .before .before .before in
     let c8 = c4 .before .before .before .before in
