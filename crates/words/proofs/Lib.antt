@@ -4,6 +4,7 @@ pub mod ItemLaws
 pub mod LinkLaws
 pub mod RowLaws
 pub mod Stores
+pub mod TableChange
 pub mod TableLaws
 pub mod TableWords
 pub mod Words

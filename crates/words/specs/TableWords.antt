@@ -5,13 +5,13 @@ use Prim.Native.Nat.{ℕ, _+_, _-_, _^_, _≤_}
 use mathlib.Core.Path.{_≡_}
 use mathlib.Core.Bool.{false}
 use mathlib.Core.List.{List, [], _∷_, _++_}
-use lib.ListN.{length, getD, replicate}
+use lib.ListN.{length, getD, set, replicate}
 use lib.Seq.{sets}
 use lib.Dec.{eqb}
 use Rattle.refusals.specs.Check.{pick}
 use Rattle.slots.specs.declared.Slot.{Slot}
 use Rattle.slots.specs.declared.Table.{Table}
-use Rattle.slots.specs.Slots.{slotCount, emptyTable, isSound}
+use Rattle.slots.specs.Slots.{slotCount, emptyTable, tableOf, isSound}
 
 abbrev pub tableLength : ℕ
 tableLength = 41
@@ -48,23 +48,35 @@ slotIn words at = record {
   tick = getD words (at + 4) 0;
 }
 
-abbrev pub busyIn : List ℕ → ℕ
-busyIn words = pick (eqb (length words) tableLength) (getD words 0 0) (2 ^ 32 - 1)
+-- the eight slots of 41 words
+unfoldable pub slotsIn : List ℕ → List Slot
+slotsIn words =
+    slotIn words 1
+    ∷ slotIn words 6
+    ∷ slotIn words 11
+    ∷ slotIn words 16
+    ∷ slotIn words 21
+    ∷ slotIn words 26
+    ∷ slotIn words 31
+    ∷ slotIn words 36
+    ∷ []
+
+-- the table of 41 words
+abbrev pub tableHeld : List ℕ → Table
+tableHeld words = record { busy = getD words 0 0; slots = slotsIn words }
+
+-- what words of another length are: free slots, and a busy word that no sound table has
+abbrev pub noTable : Table
+noTable = record { busy = 2 ^ 32 - 1; slots = emptyTable .slots }
 
 unfoldable pub tableIn : List ℕ → Table
-tableIn words = record {
-  busy = busyIn words;
-  slots =
-      slotIn words 1
-      ∷ slotIn words 6
-      ∷ slotIn words 11
-      ∷ slotIn words 16
-      ∷ slotIn words 21
-      ∷ slotIn words 26
-      ∷ slotIn words 31
-      ∷ slotIn words 36
-      ∷ [];
-}
+tableIn words = pick (eqb (length words) tableLength) (tableHeld words) noTable
+
+-- ---- changing
+
+-- the words after one slot is set and the busy word made anew: only where there are 41
+unfoldable pub changeAfter : ℕ → Slot → List ℕ → List ℕ
+changeAfter i slot words = tableAfter (tableOf (set (tableIn words .slots) i slot)) words
 
 -- ---- laws (proofs/TableLaws.antt proves each)
 

@@ -15,6 +15,7 @@ pub use link_words::LINK_WORDS;
 pub use link_words::link_in;
 pub use link_words::put_link;
 pub use table_words::TABLE_WORDS;
+pub use table_words::put_change;
 pub use table_words::put_table;
 pub use table_words::table_in;
 pub use word::narrow;

@@ -1,7 +1,9 @@
 // The table of slots as 41 words: the busy word, then LID, number, next counter, octets held and tick of each slot.
 ghost use mathlib.Core.Path.{_≡_};
 ghost use Prim.Native.Nat.{_≤_};
-ghost use Rattle.words.specs.TableWords.{slotPut, slotIn, busyIn, tableIn, tableAfter};
+ghost use lib.ListN.{length};
+ghost use Rattle.slots.specs.Slots.{wordOf};
+ghost use Rattle.words.specs.TableWords.{slotPut, slotIn, slotsIn, tableIn, tableAfter, changeAfter};
 use crate::word::put;
 use crate::word::word;
 use slots::Slot;
@@ -26,21 +28,18 @@ fn slot_in(words: &[u32], at: usize) -> Slot
     }
 }
 
-// The busy word; where there are not 41 words, one that no sound table has.
-fn busy_in(words: &[u32]) -> u32
-    ensures { λ r. ⌜ r ≡ busyIn (now (words .entry)) ⌝ }
-{
-    if words.len() != TABLE_WORDS {
-        return NOT_SOUND;
-    }
-    word(words, 0)
-}
-
 // The table that the words are; one that is not sound where there are not 41 of them.
 pub fn table_in(words: &[u32]) -> Table
     ensures { λ r. ⌜ r ≡ tableIn (now (words .entry)) ⌝ }
 {
-    let busy = busy_in(words);
+    if words.len() != TABLE_WORDS {
+        let none = [slots::free_slot(); 8];
+        return Table {
+            busy: NOT_SOUND,
+            slots: none,
+        };
+    }
+    let busy = word(words, 0);
     let slots = [
         slot_in(words, 1),
         slot_in(words, 6),
@@ -80,4 +79,36 @@ pub fn put_table(table: Table, words: &mut [u32])
         put_slot(words, 1 + SLOT_WORDS * i, slot);
         i += 1;
     }
+}
+
+// The busy word of the slots: bit i is set if the next counter of slot i is not 0.
+fn busy_of(words: &[u32]) -> u32
+    requires { ⌜ length (now words) ≡ 41 ⌝ }
+    ensures { λ r. ⌜ r ≡ wordOf (slotsIn (now (words .entry))) ⌝ }
+{
+    let mut w: u32 = 0;
+    let mut i: usize = 8;
+    while 0 < i {
+        i -= 1;
+        let next = words[SLOT_WORDS * i + 3];
+        w = w + w;
+        if next != 0 {
+            w += 1;
+        }
+    }
+    w
+}
+
+// Puts one slot and the busy word that the slots then have, where there are 41 words.
+pub fn put_change(i: usize, slot: Slot, words: &mut [u32])
+    ensures { λ _. ⌜ now (words .exit) ≡ changeAfter i slot (now (words .entry)) ⌝ }
+{
+    if words.len() != TABLE_WORDS {
+        return;
+    }
+    if i < 8 {
+        put_slot(words, 1 + SLOT_WORDS * i, slot);
+    }
+    let busy = busy_of(words);
+    put(words, 0, busy);
 }
