@@ -60,8 +60,8 @@ fn refusal(number: u8) -> Change
     }
 }
 
-// One fragment, of which the table is told by the one slot that changes: who keeps the table elsewhere writes that slot alone. Store and output are as after
-// `fragment`.
+// One fragment, of which the table is told by the one slot that changes: who keeps the table elsewhere writes that slot alone. Promised are the answer and the
+// table that the change makes, not index and slot by themselves. Store and output are as after `fragment`.
 pub fn fragment_change(
     lid: u32,
     tick: u32,

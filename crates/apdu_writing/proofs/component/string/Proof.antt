@@ -1,5 +1,6 @@
 -- `string` writes its form, its length and its octets one after the other.
 -- Assumes nothing.
+use native.Mathlib.Omega.{arith}
 use Rattle.apdu_writing.proofs.Components.{string-by, string-stopped, short-by}
 use borrow.Author.Needs.{needs}
 use Rattle.apdu_writing.proofs.component.string.Statement.{statement}
@@ -15,7 +16,7 @@ returns : tie.Need-returns
 returns c = string-stopped _ _ _ (c .before .before .before .before .put .ensures) (c .if1 .taken)
 
 put-octets-requires : tie.Need-put-octets-requires
-put-octets-requires c κs = short-by (c .before .before .before .before .before .put .ensures) (c .before .if1 .left)
+put-octets-requires c κs = omega (arith, short-by {n = c .before .before .before .before .before .before .before .before .before .args .n} (c .before .before .before .before .before .put .ensures) (c .before .if1 .left))
 
 same-length-2 : tie.Need-same-length-2
 same-length-2 c = search needs
