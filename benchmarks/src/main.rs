@@ -15,7 +15,7 @@ mod timing;
 use timing::Effort;
 
 const HEADING: &str = "Times are nanoseconds for a call, the best of ROUNDS rounds in which all contenders take their turn.
-A proved reading clears lists of its own, 1,024 octets. Plain Rust is lent its lists, 2,584 octets, and is measured with
+A proved reading clears lists of its own, 640 octets. Plain Rust is lent its lists, 2,584 octets, and is measured with
 them left as they are, which is its own way, and with them cleared before each read, which is more than the proved reading
 clears. Outputs are lent once and cleared by nobody. A copy is one of the octets that the call reads. A proved writing alone
 is reading and writing again less reading, in the same rounds; plain Rust's is its writer.";

@@ -1,5 +1,5 @@
-// The rows and entries that stand beside a message. Their fields fill their structs without gaps, so that an array of them is cleared and copied as one
-// block.
+// The rows and entries that stand beside a message. Every reading clears them and hands them on, so they are small, and their fields fill their structs
+// without gaps, so that an array of them is cleared and copied as one block. A start is a bit place in the lent octets.
 ghost use mathlib.Core.Path.{_≡_};
 ghost use lib.ListN.{replicate};
 ghost use Prim.Native.Nat.{_<_};
@@ -7,10 +7,10 @@ ghost use Rattle.apdu.specs.Values.{emptyRow, emptyEntry, entryRows};
 
 // An attribute and its container: n is a string's length, an EID, or a count; a list of n rows is followed by its rows.
 pub struct Row {
-    pub id: u16,
-    pub kind: u16,
-    pub n: u32,
-    pub start: usize,
+    pub id: u8,
+    pub kind: u8,
+    pub n: u16,
+    pub start: u32,
 }
 
 // An application entry; kind, n and start are its parameter, and rows tells how many of the message's rows belong to it, nested ones too.
@@ -22,7 +22,7 @@ pub struct Entry {
     pub kind: u8,
     pub rows: u8,
     pub n: u16,
-    pub start: usize,
+    pub start: u32,
 }
 
 // How many rows belong to an entry: those of its parameter, if that is there.

@@ -4,6 +4,7 @@ pub mod Numbers
 pub mod Chains
 pub mod Strings
 pub mod Containers
+pub mod Places
 pub mod Walk
 pub mod Fill
 pub mod Absent

@@ -7,6 +7,7 @@ ghost use Rattle.apdu_reading.specs.Messages.{FrontRead};
 ghost use Rattle.apdu_reading.specs.Answers.{noLists, Answered};
 use crate::component::count;
 use crate::component::entry_octet;
+use crate::container::place;
 use crate::cursor::Cursor;
 use crate::cursor::marked;
 use crate::front::Reading;
@@ -51,7 +52,7 @@ pub(crate) fn entry_head(s: &[u8], c: Cursor) -> EntryHead
         eid: eid.value as u8,
         kind: h.kind as u8,
         n: h.n as u16,
-        start: h.start,
+        start: place(h.start),
         rows: 0,
     };
     EntryHead { cursor, entry, due }

@@ -1,7 +1,7 @@
 // Containers up to their attribute rows, and the next row.
 ghost use mathlib.Core.Path.{_≡_};
 ghost use mathlib.Core.List.{[], _∷_};
-ghost use Prim.Native.Nat.{_<_, _≤_};
+ghost use Prim.Native.Nat.{_%_, _<_, _≤_};
 ghost use lib.ListN.{length};
 ghost use Rattle.apdu.specs.RowCounters.{total};
 ghost use Rattle.apdu_reading.specs.Rows.{Opens, Next};
@@ -74,6 +74,13 @@ pub(crate) fn container(s: &[u8], depth: usize, c: Cursor) -> Head
     }
 }
 
+// A place in a message as rows and entries hold it: behind a fault, where a place may be any, what is too large of it is cut off.
+pub(crate) fn place(start: usize) -> u32
+    ensures { λ r. ⌜ r ≡ start % 4294967296 ⌝ }
+{
+    (start % 4294967296) as u32
+}
+
 pub struct RowRead {
     pub cursor: Cursor,
     pub due: Due,
@@ -90,10 +97,10 @@ pub(crate) fn next_row(s: &[u8], c: Cursor, o: Due) -> RowRead
     let due = after_row(o, announces(h.kind, h.n));
     let cursor = h.cursor;
     let row = Row {
-        id: d.value as u16,
-        kind: h.kind as u16,
-        n: h.n as u32,
-        start: h.start,
+        id: d.value as u8,
+        kind: h.kind as u8,
+        n: h.n as u16,
+        start: place(h.start),
     };
     RowRead { cursor, due, row }
 }

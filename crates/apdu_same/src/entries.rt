@@ -25,11 +25,11 @@ fn entry(s: &[u8], e: Entry, t: &[u8], f: Entry) -> bool
             s,
             e.kind as u64,
             e.n as u64,
-            e.start,
+            e.start as usize,
             t,
             f.kind as u64,
             f.n as u64,
-            f.start,
+            f.start as usize,
         );
     }
     eid

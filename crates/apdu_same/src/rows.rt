@@ -42,11 +42,11 @@ fn row(s: &[u8], v: Row, t: &[u8], w: Row) -> bool
         s,
         v.kind as u64,
         v.n as u64,
-        v.start,
+        v.start as usize,
         t,
         w.kind as u64,
         w.n as u64,
-        w.start,
+        w.start as usize,
     )
 }
 

@@ -74,7 +74,14 @@ pub(crate) fn row_front(out: &mut [u8], s: &[u8], row: Row, at: usize) -> usize
 {
     let sign = put_decimal(out, row.id as u64, at);
     let value = put(out, b'=', sign);
-    container_front(out, s, row.kind as u64, row.n as u64, row.start, value)
+    container_front(
+        out,
+        s,
+        row.kind as u64,
+        row.n as u64,
+        row.start as usize,
+        value,
+    )
 }
 
 // `]` for each of the innermost lists that ends, and `,` if another goes on.

@@ -32,7 +32,7 @@ fn entry(out: &mut [u8], s: &[u8], e: Entry, table: [Row; 32], first: usize, at:
         entry_rows(e),
         e.kind as u64,
         e.n as u64,
-        e.start,
+        e.start as usize,
         value,
     )
 }

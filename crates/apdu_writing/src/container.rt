@@ -56,7 +56,7 @@ pub(crate) fn next_row(lent: &[u8], w: Row, u: Due, out: &mut [u8], c: Quill) ->
     let d = number(w.id as u64, out, c);
     let k = w.kind as u64;
     let n = w.n as u64;
-    let quill = head(lent, level(u), k, n, w.start, out, d);
+    let quill = head(lent, level(u), k, n, w.start as usize, out, d);
     let due = after_row(u, announces(k, n));
     RowPut { quill, due }
 }

@@ -62,7 +62,7 @@ fn application(
         entry_rows(e),
         e.kind as u64,
         e.n as u64,
-        e.start,
+        e.start as usize,
         out,
         f,
     )

@@ -22,14 +22,14 @@ const ACCESS_DENIED: u8 = 1;
 
 const ARGUMENT_ERROR: u8 = 2;
 
-const OCTET_STRING: u16 = 2;
+const OCTET_STRING: u8 = 2;
 
 // The status of an attribute, or 0.
 fn attribute_status(a: apdu::Row, d: Directory, exact: bool) -> u8
     requires { ⌜ length (listOf d) ≤ 32 ⌝ }
     ensures { λ r. ⌜ r ≡ firstOf (setFault (listOf d) exact a) ⌝ }
 {
-    let found = find(d, a.id);
+    let found = find(d, a.id as u16);
     if !found.known {
         return ARGUMENT_ERROR;
     }
@@ -99,9 +99,9 @@ fn set_row(s: &[u8], a: apdu::Row, d: Directory, writable: &mut [u8])
     requires { ⌜ length (listOf d) ≤ 32 ⌝ }
     ensures { λ _. ⌜ now (writable .exit) ≡ setRow (now (s .entry)) (listOf d) a (now (writable .entry)) ⌝ }
 {
-    let found = find(d, a.id);
+    let found = find(d, a.id as u16);
     let row = found.row;
-    let done = bits::copy_string(s, a.start, a.n as usize, writable, row.start);
+    let done = bits::copy_string(s, a.start as usize, a.n as usize, writable, row.start);
 }
 
 // Writes the values of the first `count` attributes in turn.

@@ -70,10 +70,10 @@ pub(crate) fn gather_values(
         let row = found.row;
         put_value(row, factory, writable, &mut octets, at);
         attributes[i] = apdu::Row {
-            id: row.id as u16,
+            id: row.id,
             kind: 2,
-            n: row.length as u32,
-            start: 8 * at,
+            n: row.length as u16,
+            start: (8 * at) as u32,
         };
         at += row.length;
         i += 1;

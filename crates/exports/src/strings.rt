@@ -99,7 +99,7 @@ fn row_string(row: Row) -> StringPart
 {
     string_part(
         row.kind as u64 == apdu::OCTET_STRING,
-        row.start,
+        row.start as usize,
         row.n as u64,
     )
 }
@@ -109,7 +109,7 @@ fn entry_string(entry: Entry) -> StringPart
 {
     string_part(
         entry.kind as u64 == apdu::OCTET_STRING,
-        entry.start,
+        entry.start as usize,
         entry.n as u64,
     )
 }

@@ -20,7 +20,7 @@ use Rattle.apdu.specs.Values.{bitOf, num, if, headValues, rowsValues, entryValu
 use Rattle.apdu_writing.proofs.RoundTrip.{written-reads}
 use Rattle.initialisation.specs.declared.records.Configuration.{Configuration}
 use Rattle.initialisation.specs.Offer.{Found, nothing, found}
-use Rattle.initialisation.specs.Hearing.{Call, hearingRefusal, Taken, beaconOf, sent, phaseAfter, linkAfter, entryOf, vstOf, vstFor, Reply, refused, silent, vst, outputFor, Heard, heardOf}
+use Rattle.initialisation.specs.Hearing.{Call, hearingRefusal, Taken, beaconOf, sent, phaseAfter, linkAfter, entryOf, markOf, vstOf, vstFor, Reply, refused, silent, vst, outputFor, Heard, heardOf}
 use Rattle.initialisation.specs.Theorems.{vstSays, VstSent, Hears}
 use Rattle.initialisation.proofs.VstLaws.{Sendable, no-rows, vst-passes, vst-short}
 use Rattle.initialisation.proofs.HearingLaws.{checked, sendable, taken-parts}
@@ -40,7 +40,7 @@ values-said t marks k =
     rw (no-rows e)
     (ap
     (λ (l : List Value). fields (9 ∷ []) ∷ fields (0 ∷ []) ∷ num (t .profile) ∷ num 1 ∷ fields (1 ∷ bitOf q ∷ 0 ∷ e .aid ∷ []) ∷ num (e .eid) ∷ l)
-    (tail q (num 2) (fields (0 ∷ [])) (fields (e .«mark_length» ∷ [])) (string (8 * e .mark) (take (8 * e .«mark_length») (drop (8 * e .mark) (bits marks))))
+    (tail q (num 2) (fields (0 ∷ [])) (fields (e .«mark_length» ∷ [])) (string 0 (take (8 * e .«mark_length») (drop 0 (bits (markOf e marks)))))
     (fields (1 ∷ k .class ∷ []) ∷ fields (k .maker ∷ []) ∷ fields (k .status ∷ []) ∷ [])))
 
 octets-long : (vs : List Value) → length (encodedOctets vs) ≡ size vs
@@ -51,7 +51,7 @@ octets-long vs = length-octets (size vs) (encode vs)
 reads-back : (marks : List ℕ) (t : Taken) (k : Configuration) (out : List ℕ) → Sendable marks t k → 512 ≤ length out → ReadAs (encodedOctets (vstFor t marks k)) (vstFor t marks k)
 unfolding vstFor
 reads-back marks t k out can room =
-    written-reads marks (kind.Vst (vstOf (t .profile) k)) (entryOf (t .element) ∷ []) [] out (vst-passes marks t k can [] [] (length out) room)
+    written-reads (markOf (t .element) marks) (kind.Vst (vstOf (t .profile) k)) (entryOf (t .element) ∷ []) [] out (vst-passes marks t k can [] [] (length out) room)
 
 -- ---- the three ways of a call
 

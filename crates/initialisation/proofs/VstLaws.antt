@@ -1,13 +1,14 @@
 -- The VST of a taken pair passes the writer: its values are in range, its mark is inside, and it is short.
 -- Assumes nothing.
-use Prim.Native.Nat.{ℕ, _+_, _*_, _/_, _^_, _≤_, _<_}
+use Prim.Native.Nat.{ℕ, _+_, _-_, _*_, _/_, _^_, _≤_, _<_}
 use mathlib.Core.Path.{_≡_, refl, ap, sym, _∙_}
 use mathlib.Core.List.{List, [], _∷_, _++_, append-assoc, append-nil}
 use mathlib.Core.Bool.{Bool, true, false, _&&_}
 use native.Mathlib.Omega.{arith}
 use lib.ListN.{length, take, drop, set, replicate, length-append, length-drop}
+use lib.Seq.{length-take-le}
 use lib.Dec.{ltb, leb, eqb}
-use borrow.Author.Tests.{lt-ltb, le-ltb, ltb-true, leb-true}
+use borrow.Author.Tests.{lt-ltb, le-ltb, le-leb, ltb-true, leb-true}
 use Rattle.refusals.specs.Check.{pick, firstOf}
 use Rattle.refusals.proofs.Tests.{by-test}
 use Rattle.bits.specs.Bits.{bits}
@@ -37,7 +38,7 @@ use Rattle.apdu_writing.proofs.Levels.{writes-none, writes-append, writes-fine}
 use Rattle.initialisation.specs.declared.records.Element.{Element}
 use Rattle.initialisation.specs.declared.records.Configuration.{Configuration}
 use Rattle.initialisation.specs.Elements.{elementSound}
-use Rattle.initialisation.specs.Hearing.{configurationInRange, Taken, entryOf, vstOf, vstFor}
+use Rattle.initialisation.specs.Hearing.{configurationInRange, Taken, entryOf, markOf, vstOf, vstFor}
 use Rattle.initialisation.specs.Searching.{octetsIn, Sends}
 
 -- ---- values that are written for components, n bits in all
@@ -185,6 +186,20 @@ element-ranges octets e h =
     let d = both (leb (e .«mark_length») 127) (isInside octets (8 * e .mark) (e .«mark_length»)) (c .1) in
     record { eid = leb-true (e .eid) 127 (b .0); aid = leb-true (e .aid) 31 (c .0); few = leb-true (e .«mark_length») 127 (d .0); inside = d .1 }
 
+-- its mark ends inside, and is as long as it says
+pub mark-ends : (octets : ℕ) (e : Element) → elementSound octets e ≡ true → e .mark + e .«mark_length» ≤ octets
+mark-ends octets e h = let i = inside-le octets (8 * e .mark) (e .«mark_length») (element-ranges octets e h .inside) in omega arith
+
+mark-long : (marks : List ℕ) (e : Element) → elementSound (length marks) e ≡ true → length (markOf e marks) ≡ e .«mark_length»
+mark-long marks e h =
+    let i = mark-ends (length marks) e h in
+    let l = length-drop (e .mark) marks in
+    length-take-le (e .«mark_length») (drop (e .mark) marks) (omega arith)
+
+-- the part that is lent to the writer
+pub mark-part : (marks : List ℕ) (e : Element) → take (e .mark + e .«mark_length» - e .mark) (drop (e .mark) marks) ≡ markOf e marks
+mark-part marks e = let n : e .mark + e .«mark_length» - e .mark ≡ e .«mark_length» = omega arith in ap (λ (i : ℕ). take i (drop (e .mark) marks)) n
+
 -- its entry has no rows, with a mark or without
 pub no-rows : (e : Element) → entryRows (entryOf e) ≡ 0
 unfolding entryRows
@@ -206,10 +221,11 @@ module _ (marks : List ℕ) (t : Taken) (k : Configuration) (can : Sendable mark
       let b = both (ltb (k .maker) (2 ^ 16)) (ltb (k .status) (2 ^ 16)) (a .1) in
       configuration-written (k .class) (k .maker) (k .status) (ltb-true (k .class) (2 ^ 15) (a .0)) (ltb-true (k .maker) (2 ^ 16) (b .0)) (ltb-true (k .status) (2 ^ 16) (b .1))
 
-  entered : Written (entry ∷ []) ((fields (1 ∷ bitOf q ∷ 0 ∷ e .aid ∷ []) ∷ []) ++ ((num (e .eid) ∷ []) ++ if q (headValues marks 2 (e .«mark_length») (8 * e .mark) ++ []))) (8 + (8 + pick q (8 + (8 + 8 * e .«mark_length»)) 0))
+  entered : Written (entry ∷ []) ((fields (1 ∷ bitOf q ∷ 0 ∷ e .aid ∷ []) ∷ []) ++ ((num (e .eid) ∷ []) ++ if q (headValues (markOf e marks) 2 (e .«mark_length») 0 ++ []))) (8 + (8 + pick q (8 + (8 + 8 * e .«mark_length»)) 0))
   entered =
       let r = ranged in
-      entry-written q (e .aid) (e .eid) (omega arith) (omega arith) (λ h. mark-written marks (8 * e .mark) (e .«mark_length») (r .few) (inside-le (length marks) (8 * e .mark) (e .«mark_length») (r .inside)))
+      let l = mark-long marks e (can .sound) in
+      entry-written q (e .aid) (e .eid) (omega arith) (omega arith) (λ h. mark-written (markOf e marks) 0 (e .«mark_length») (r .few) (omega arith))
 
   vst-written : Written (choice ∷ []) (vstFor t marks k) (4 + (4 + (8 + ((8 + ((8 + (8 + pick q (8 + (8 + 8 * e .«mark_length»)) 0)) + 0)) + ((16 + (16 + 16)) + 0)))))
   unfolding vstFor valuesOf vstValues entriesValues entryValues rowsValues rowsOf
@@ -227,19 +243,22 @@ module _ (marks : List ℕ) (t : Taken) (k : Configuration) (can : Sendable mark
     abbrev message : Message
     message = kind.Vst (vstOf (t .profile) k)
 
-    pub vst-values : valuesOf marks message (entryOf e ∷ es) rs ≡ vstFor t marks k
+    pub vst-values : valuesOf (markOf e marks) message (entryOf e ∷ es) rs ≡ vstFor t marks k
     unfolding vstFor valuesOf vstValues entriesValues rowsOf
     vst-values = rw (no-rows (t .element))
 
-    vst-sound : sound (length marks) message (entryOf e ∷ es) rs ≡ true
+    vst-sound : sound (length (markOf e marks)) message (entryOf e ∷ es) rs ≡ true
     unfolding sound vstSound entriesSound entrySound containerSound partFits rowsSound partsFit closes
-    vst-sound = rw (no-rows (t .element)) (marked q (ranged .inside))
+    vst-sound = rw (no-rows (t .element)) (marked q whole)
       where
+        whole : isInside (length (markOf e marks)) 0 (e .«mark_length») ≡ true
+        whole = let l = mark-long marks e (can .sound) in unfold isInside in le-leb (0 + 8 * e .«mark_length») (8 * length (markOf e marks)) (omega arith)
+
         marked : (q : Bool) {i : Bool} → i ≡ true → (soundIf q (i && true) && true) ≡ true
         marked true h = rw h
         marked false h = refl
 
-    pub vst-passes : (n : ℕ) → 512 ≤ n → writeRefusal marks message (entryOf e ∷ es) rs n ≡ 0
+    pub vst-passes : (n : ℕ) → 512 ≤ n → writeRefusal (markOf e marks) message (entryOf e ∷ es) rs n ≡ 0
     unfolding writeRefusal firstOf wellFormed
     vst-passes n h =
         let l = vst-short in
@@ -254,16 +273,16 @@ octets-told (written.MessageTooLong p) n h = let z : _≡_ {A = ℕ} 0 1 = cc in
 octets-told written.OutputTooSmall n h = let z : _≡_ {A = ℕ} 0 1 = cc in absurd (omega arith)
 octets-told (written.Octets m) n h = cc
 
-module _ (marks : List ℕ) (t : Taken) (k : Configuration) (can : Sendable marks t k) (rs : List Row) (out : List ℕ) (room : 512 ≤ length out) {v : Vst} {x : Entry} {es : List Entry}
-    (a : v ≡ vstOf (t .profile) k) (b : x ≡ entryOf (t .element)) (d : es ≡ replicate 32 emptyEntry) where
-  passed : writeRefusal marks (kind.Vst v) (set es 0 x) rs (length out) ≡ 0
-  passed = rw (a, b, d) (vst-passes marks t k can (replicate 31 emptyEntry) rs (length out) room)
+module _ (marks : List ℕ) (t : Taken) (k : Configuration) (can : Sendable marks t k) (rs : List Row) (out : List ℕ) (room : 512 ≤ length out) {v : Vst} {x : Entry} {es : List Entry} {s : List ℕ}
+    (a : v ≡ vstOf (t .profile) k) (b : x ≡ entryOf (t .element)) (d : es ≡ replicate 32 emptyEntry) (m : s ≡ markOf (t .element) marks) where
+  passed : writeRefusal s (kind.Vst v) (set es 0 x) rs (length out) ≡ 0
+  passed = rw (a, b, d, m) (vst-passes marks t k can (replicate 31 emptyEntry) rs (length out) room)
 
-  values-are : valuesOf marks (kind.Vst v) (set es 0 x) rs ≡ vstFor t marks k
-  values-are = rw (a, b, d) (vst-values marks t k can (replicate 31 emptyEntry) rs)
+  values-are : valuesOf s (kind.Vst v) (set es 0 x) rs ≡ vstFor t marks k
+  values-are = rw (a, b, d, m) (vst-values marks t k can (replicate 31 emptyEntry) rs)
 
-  pub sends : (w : ApduWritten) {n : ℕ} {out' : List ℕ} → n ≡ octetsIn w → answerOf w ≡ writeAnswer marks (kind.Vst v) (set es 0 x) rs (length out)
-      → out' ≡ writeOutput marks (kind.Vst v) (set es 0 x) rs out → Sends (t .profile) (t .element) k marks n out out'
+  pub sends : (w : ApduWritten) {n : ℕ} {out' : List ℕ} → n ≡ octetsIn w → answerOf w ≡ writeAnswer s (kind.Vst v) (set es 0 x) rs (length out)
+      → out' ≡ writeOutput s (kind.Vst v) (set es 0 x) rs out → Sends (t .profile) (t .element) k marks n out out'
   unfolding writeAnswer answered writeOutput
   sends w {n} {out'} e told left =
       record {

@@ -1,11 +1,11 @@
 -- The BST call (01, "The tag's link"), sentence by sentence: its checks; the stored time and tick and the waking; what the tag takes; silence, fresh start
 -- and VST. Proved of it in specs/Theorems.antt: what a VST says, and when one is sent.
 -- Assumes nothing.
-use Prim.Native.Nat.{ℕ, _*_, _^_}
+use Prim.Native.Nat.{ℕ, _^_}
 use mathlib.Core.Path.{_≡_}
 use mathlib.Core.Bool.{Bool, true, not, _&&_}
 use mathlib.Core.List.{List, [], _∷_, _++_}
-use lib.ListN.{length, drop}
+use lib.ListN.{length, take, drop}
 use lib.Dec.{eqb, ltb}
 use Rattle.refusals.specs.Check.{pick, Check, check, firstOf}
 use Rattle.apdu_format.specs.Component.{octetString}
@@ -131,16 +131,20 @@ entryOf e =
       eid = e .eid;
       kind = octetString;
       n = e .«mark_length»;
-      start = 8 * e .mark;
+      start = 0;
       rows = 0;
     }
+
+-- the mark of an element
+abbrev pub markOf : Element → List ℕ → List ℕ
+markOf e marks = take (e .«mark_length») (drop (e .mark) marks)
 
 -- status present, fill 0
 abbrev pub vstOf : ℕ → Configuration → Vst
 vstOf profile k = record { fill = 0; profile = profile; applications = 1; class = k .class; maker = k .maker; «has_status» = true; status = k .status }
 
 unfoldable pub vstFor : Taken → List ℕ → Configuration → List Value
-vstFor t marks k = valuesOf marks (kind.Vst (vstOf (t .profile) k)) (entryOf (t .element) ∷ []) []
+vstFor t marks k = valuesOf (markOf (t .element) marks) (kind.Vst (vstOf (t .profile) k)) (entryOf (t .element) ∷ []) []
 
 -- ---- the call
 

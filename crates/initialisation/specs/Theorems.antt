@@ -1,7 +1,7 @@
 -- What is proved of the BST call beyond its definition (proofs/Theorems.antt): a VST that is sent reads back as what was taken; a silent or refused call
 -- leaves the output; the fresh LID is taken exactly when a VST is sent.
 -- Assumes nothing.
-use Prim.Native.Nat.{ℕ, _*_, _≤_}
+use Prim.Native.Nat.{ℕ, _≤_}
 use mathlib.Core.Path.{_≡_}
 use mathlib.Core.List.{List, [], _∷_, _++_}
 use lib.ListN.{take}
@@ -13,7 +13,7 @@ use Rattle.initialisation.specs.declared.records.Configuration.{Configur
 use Rattle.initialisation.specs.declared.records.Phase.the-variants.{Ready}
 use Rattle.initialisation.specs.Elements.{ownElements}
 use Rattle.initialisation.specs.Offer.{found, profileOf, offeredBy, pairOf}
-use Rattle.initialisation.specs.Hearing.{Call, Taken, beaconOf, woken, refused, silent, vst, heardOf}
+use Rattle.initialisation.specs.Hearing.{Call, Taken, beaconOf, woken, markOf, refused, silent, vst, heardOf}
 
 -- the values of a VST: choice 9, fill 0, the profile, one application; its entry with an eid, with a parameter unless the mark is empty, AID, eid and mark;
 -- and the configuration with its status
@@ -23,7 +23,7 @@ vstSays t marks k =
     let marked = ltb 0 (e .«mark_length») in
     fields (9 ∷ []) ∷ fields (0 ∷ []) ∷ num (t .profile) ∷ num 1
     ∷ fields (1 ∷ bitOf marked ∷ 0 ∷ e .aid ∷ []) ∷ num (e .eid)
-    ∷ (if marked (num 2 ∷ str marks (8 * e .mark) (e .«mark_length»)) ++ (fields (1 ∷ k .class ∷ []) ∷ fields (k .maker ∷ []) ∷ fields (k .status ∷ []) ∷ []))
+    ∷ (if marked (num 2 ∷ str (markOf e marks) 0 (e .«mark_length»)) ++ (fields (1 ∷ k .class ∷ []) ∷ fields (k .maker ∷ []) ∷ fields (k .status ∷ []) ∷ []))
 
 -- a VST of n octets was sent: they stand at the output's front, and are read as those values of the profile and the pair that the BST call takes
 pub record VstSent (c : Call) (n : ℕ) : Type 0 where

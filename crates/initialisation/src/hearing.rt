@@ -196,7 +196,7 @@ fn entry_of(element: Element) -> Entry
         eid: element.eid,
         kind: apdu::OCTET_STRING as u8,
         n: element.mark_length as u16,
-        start: 8 * (element.mark as usize),
+        start: 0,
         rows: 0,
     }
 }
@@ -241,7 +241,9 @@ fn send(
     let mut entries = apdu::no_entries();
     entries[0] = entry_of(element);
     let vst = vst_of(profile, configuration);
-    let written = apdu_writing::write(Message::Vst(vst), apdu::no_rows(), entries, marks, out);
+    let first = element.mark as usize;
+    let mark = &marks[first..first + element.mark_length as usize];
+    let written = apdu_writing::write(Message::Vst(vst), apdu::no_rows(), entries, mark, out);
     octets_of(written)
 }
 

@@ -33,13 +33,19 @@ cast-head-3 c = search needs
 cast-head-4 : tie.Need-cast-head-4
 cast-head-4 c = search needs
 
+cast-head-5 : tie.Need-cast-head-5
+cast-head-5 c = search needs
+
+cast-head-6 : tie.Need-cast-head-6
+cast-head-6 c = search needs
+
 head-requires : tie.Need-head-requires
 head-requires c κs = search needs
 
 returns : tie.Need-returns
 returns c =
-    entry-by _ _ _ _ (c .before .before .before .before .before .before .before .before .before .before .before .before .before .flag .ensures) (c .before .before .before .before .before .before .before .before .before .before .before .before .flag2 .ensures) (c .before .before .before .before .before .before .before .number-if .ensures)
-    (if-there _ _ (c .before .before .before .before .before .if1 .taken) (c .head .ensures))
+    entry-by _ _ _ _ (c .before .before .before .before .before .before .before .before .before .before .before .before .before .before .before .flag .ensures) (c .before .before .before .before .before .before .before .before .before .before .before .before .before .before .flag2 .ensures) (c .before .before .before .before .before .before .before .before .before .number-if .ensures)
+    (if-there _ _ (c .before .before .before .before .before .before .before .if1 .taken) (c .head .ensures))
 
 returns-2 : tie.Need-returns-2
 returns-2 c =
@@ -58,6 +64,8 @@ entry-spec =
     cast-head-2
     cast-head-3
     cast-head-4
+    cast-head-5
+    cast-head-6
     head-requires
     returns
     returns-2)

@@ -22,15 +22,18 @@ cast-container-front c = search needs
 cast-container-front-2 : tie.Need-cast-container-front-2
 cast-container-front-2 c = search needs
 
+cast-container-front-3 : tie.Need-cast-container-front-3
+cast-container-front-3 c = search needs
+
 container-front-requires : tie.Need-container-front-requires
 container-front-requires c κs = tt
 
 same-length : tie.Need-same-length
-same-length c = c .before .before .container-front .kept .0 ∙ c .before .before .before .before .before .before .before .before .put .kept .0 ∙ c .before .before .before .before .before .before .before .before .before .before .before .before .put-decimal .kept .0
+same-length c = c .before .before .container-front .kept .0 ∙ c .before .before .before .before .before .before .before .before .before .put .kept .0 ∙ c .before .before .before .before .before .before .before .before .before .before .before .before .before .put-decimal .kept .0
 
 returns : tie.Need-returns
 unfolding rowFront
-returns c = inks-then (c .before .before .before .before .before .before .before .before .before .before .before .before .put-decimal .ensures) (inks-then (c .before .before .before .before .before .before .before .before .put .ensures) (c .before .before .container-front .ensures))
+returns c = inks-then (c .before .before .before .before .before .before .before .before .before .before .before .before .before .put-decimal .ensures) (inks-then (c .before .before .before .before .before .before .before .before .before .put .ensures) (c .before .before .container-front .ensures))
 
 pub row-front-spec : {M : Type 1} → statement M
-row-front-spec = tie.close (tie.spec cast-put-decimal put-decimal-requires put-requires cast-container-front cast-container-front-2 container-front-requires same-length returns)
+row-front-spec = tie.close (tie.spec cast-put-decimal put-decimal-requires put-requires cast-container-front cast-container-front-2 cast-container-front-3 container-front-requires same-length returns)

@@ -36,15 +36,18 @@ cast-container-if c = search needs
 cast-container-if-2 : tie.Need-cast-container-if-2
 cast-container-if-2 c = search needs
 
+cast-container-if-3 : tie.Need-cast-container-if-3
+cast-container-if-3 c = search needs
+
 container-if-requires : tie.Need-container-if-requires
 container-if-requires c κs = tt
 
 same-length : tie.Need-same-length
-same-length c = c .before .before .container-if .kept .1 .0 ∙ c .before .before .before .before .before .before .before .before .before .before .number-if .kept .1 .0 ∙ c .before .before .before .before .before .before .before .before .before .before .before .before .before .before .before .before .put-decimal .kept .0
+same-length c = c .before .before .container-if .kept .1 .0 ∙ c .before .before .before .before .before .before .before .before .before .before .before .number-if .kept .1 .0 ∙ c .before .before .before .before .before .before .before .before .before .before .before .before .before .before .before .before .before .put-decimal .kept .0
 
 returns : tie.Need-returns
 unfolding entryText
-returns c = entry-inks _ _ _ (c .before .before .before .before .before .entry-rows .ensures .0) (inks-then (c .before .before .before .before .before .before .before .before .before .before .before .before .before .before .before .before .put-decimal .ensures) (inks-then (c .before .before .before .before .before .before .before .before .before .before .number-if .ensures) (c .before .before .container-if .ensures)))
+returns c = entry-inks _ _ _ (c .before .before .before .before .before .before .entry-rows .ensures .0) (inks-then (c .before .before .before .before .before .before .before .before .before .before .before .before .before .before .before .before .before .put-decimal .ensures) (inks-then (c .before .before .before .before .before .before .before .before .before .before .before .number-if .ensures) (c .before .before .container-if .ensures)))
 
 pub entry-spec : {M : Type 1} → statement M
-entry-spec = tie.close (tie.spec cast-put-decimal put-decimal-requires slice-aggregate-number-if cast-number-if number-if-requires slice-aggregate-container-if entry-rows-requires cast-container-if cast-container-if-2 container-if-requires same-length returns)
+entry-spec = tie.close (tie.spec cast-put-decimal put-decimal-requires slice-aggregate-number-if cast-number-if number-if-requires slice-aggregate-container-if entry-rows-requires cast-container-if cast-container-if-2 cast-container-if-3 container-if-requires same-length returns)

@@ -20,6 +20,9 @@ cast-n c = search needs
 level-requires : tie.Need-level-requires
 level-requires c κs = search needs
 
+cast-head : tie.Need-cast-head
+cast-head c = search needs
+
 head-requires : tie.Need-head-requires
 head-requires c κs = search needs
 
@@ -33,7 +36,7 @@ same-length : tie.Need-same-length
 same-length c = search needs
 
 returns : tie.Need-returns
-returns c = next-by _ _ _ (c .before .before .before .before .before .before .before .before .before .before .before .before .before .before .before .before .pre) (c .before .before .before .before .before .before .level .ensures .0) (c .before .before .before .before .before .before .before .before .before .before .before .number .ensures) (c .before .before .before .before .head .ensures) (rw (c .before .announces .ensures) at (c .after-row .ensures))
+returns c = next-by _ _ _ (c .before .before .before .before .before .before .before .before .before .before .before .before .before .before .before .before .before .pre) (c .before .before .before .before .before .before .before .level .ensures .0) (c .before .before .before .before .before .before .before .before .before .before .before .before .number .ensures) (c .before .before .before .before .head .ensures) (rw (c .before .announces .ensures) at (c .after-row .ensures))
 
 pub next-row-spec : {M : Type 1} → statement M
 next-row-spec =
@@ -44,6 +47,7 @@ next-row-spec =
     cast-k
     cast-n
     level-requires
+    cast-head
     head-requires
     announces-requires
     after-row-requires

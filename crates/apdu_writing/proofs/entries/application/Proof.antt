@@ -47,6 +47,9 @@ cast-parameter c = search needs
 cast-parameter-2 : tie.Need-cast-parameter-2
 cast-parameter-2 c = search needs
 
+cast-parameter-3 : tie.Need-cast-parameter-3
+cast-parameter-3 c = search needs
+
 parameter-requires : tie.Need-parameter-requires
 parameter-requires c κs = search needs
 
@@ -54,7 +57,7 @@ same-length : tie.Need-same-length
 same-length c = search needs
 
 returns : tie.Need-returns
-returns c = entry-by _ _ _ (c .before .before .before .before .before .before .entry-rows .ensures .0) (c .before .before .before .before .before .before .before .before .before .before .before .before .before .before .before .before .before .before .before .before .bit .ensures .0) (c .before .before .before .before .before .before .before .before .before .before .before .before .before .before .before .before .before .before .before .bit2 .ensures .0) (c .before .before .before .before .before .before .before .before .before .before .before .before .before .before .before .before .before .small .ensures) (c .before .before .before .before .before .before .before .before .before .before .before .before .before .before .put .ensures) (c .before .before .before .before .before .before .before .before .before .number-if .ensures) (c .before .before .parameter .ensures)
+returns c = entry-by _ _ _ (c .before .before .before .before .before .before .before .entry-rows .ensures .0) (c .before .before .before .before .before .before .before .before .before .before .before .before .before .before .before .before .before .before .before .before .before .bit .ensures .0) (c .before .before .before .before .before .before .before .before .before .before .before .before .before .before .before .before .before .before .before .before .bit2 .ensures .0) (c .before .before .before .before .before .before .before .before .before .before .before .before .before .before .before .before .before .before .small .ensures) (c .before .before .before .before .before .before .before .before .before .before .before .before .before .before .before .put .ensures) (c .before .before .before .before .before .before .before .before .before .before .number-if .ensures) (c .before .before .parameter .ensures)
 
 pub application-spec : {M : Type 1} → statement M
 application-spec =
@@ -74,6 +77,7 @@ application-spec =
     entry-rows-requires
     cast-parameter
     cast-parameter-2
+    cast-parameter-3
     parameter-requires
     same-length
     returns)

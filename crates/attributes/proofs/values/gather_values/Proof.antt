@@ -46,34 +46,34 @@ put-value-requires c κs =
     (this-inside _ _ _ _ _ _ (a .pre .2) (a .pre .0) (l .loop .i) t (l .loop .inv .1) (c .before .before .row-at .ensures), omega (arith, k, l .loop .inv .1 .long))
 
 cast-t20 : tie.Need-cast-t20 Inv-loop μ-loop
-cast-t20 c = omega arith
-
-cast-t21 : tie.Need-cast-t21 Inv-loop μ-loop
-cast-t21 c =
-    let l = c .before .before .before .before .before .before .before .before in
-    let a = c .before .before .before .before .before .before .before .before .before .before .before .before .before in
-    omega (arith, this-short _ _ _ _ _ _ (a .pre .2) (a .pre .0) (l .loop .i) (c .before .before .before .before .before .before .before .loop-test .taken) (l .loop .inv .1) (c .before .before .before .before .before .before .row-at .ensures))
+cast-t20 c =
+    let l = c .before .before .before .before .before .before .before in
+    let a = c .before .before .before .before .before .before .before .before .before .before .before .before in
+    omega (arith, this-short _ _ _ _ _ _ (a .pre .2) (a .pre .0) (l .loop .i) (c .before .before .before .before .before .before .loop-test .taken) (l .loop .inv .1) (c .before .before .before .before .before .row-at .ensures))
 
 mul-t15 : tie.Need-mul-t15 Inv-loop μ-loop
 mul-t15 c =
-    let l = c .before .before .before .before .before .before .before .before in
-    let a = c .before .before .before .before .before .before .before .before .before .before .before .before .before in
-    omega (arith, this-room _ _ _ _ _ _ (a .pre .2) (a .pre .0) (l .loop .i) (c .before .before .before .before .before .before .before .loop-test .taken) (l .loop .inv .1) (c .before .before .before .before .before .before .row-at .ensures))
+    let l = c .before .before .before .before .before .before .before in
+    let a = c .before .before .before .before .before .before .before .before .before .before .before .before in
+    omega (arith, this-room _ _ _ _ _ _ (a .pre .2) (a .pre .0) (l .loop .i) (c .before .before .before .before .before .before .loop-test .taken) (l .loop .inv .1) (c .before .before .before .before .before .row-at .ensures))
+
+cast-t21 : tie.Need-cast-t21 Inv-loop μ-loop
+cast-t21 c =
+    let l = c .before .before .before .before .before .before .before in
+    let a = c .before .before .before .before .before .before .before .before .before .before .before .before in
+    omega (arith, this-room _ _ _ _ _ _ (a .pre .2) (a .pre .0) (l .loop .i) (c .before .before .before .before .before .before .loop-test .taken) (l .loop .inv .1) (c .before .before .before .before .before .row-at .ensures))
 
 mul-attributes : tie.Need-mul-attributes Inv-loop μ-loop
 mul-attributes c = omega arith
 
 array-set-from-attributes : tie.Need-array-set-from-attributes Inv-loop μ-loop
-array-set-from-attributes c =
-    let l = c .before .before .before .before .before .before .before .before in
-    let a = c .before .before .before .before .before .before .before .before .before .before .before .before .before in
-    omega (arith, l .loop .inv .1 .wide)
+array-set-from-attributes c = omega (arith, c .before .before .before .before .before .before .before .loop .inv .1 .wide)
 
 add-at : tie.Need-add-at Inv-loop μ-loop
 add-at c =
-    let l = c .before .before .before .before .before .before .before .before .before in
-    let a = c .before .before .before .before .before .before .before .before .before .before .before .before .before .before in
-    omega (arith, this-room _ _ _ _ _ _ (a .pre .2) (a .pre .0) (l .loop .i) (c .before .before .before .before .before .before .before .before .loop-test .taken) (l .loop .inv .1) (c .before .before .before .before .before .before .before .row-at .ensures))
+    let l = c .before .before .before .before .before .before .before .before in
+    let a = c .before .before .before .before .before .before .before .before .before .before .before .before .before in
+    omega (arith, this-room _ _ _ _ _ _ (a .pre .2) (a .pre .0) (l .loop .i) (c .before .before .before .before .before .before .before .loop-test .taken) (l .loop .inv .1) (c .before .before .before .before .before .before .row-at .ensures))
 
 add-i : tie.Need-add-i Inv-loop μ-loop
 add-i c = omega arith
@@ -83,9 +83,9 @@ loop-less c = omega arith
 
 loop-again : tie.Need-loop-again Inv-loop μ-loop
 loop-again c =
-    let l = c .before .before .before .before .before .before .before .before .before in
-    let a = c .before .before .before .before .before .before .before .before .before .before .before .before .before .before in
-    (omega arith, gathered-more _ _ _ _ _ _ (a .pre .2) (a .pre .0) (l .loop .i) (c .before .before .before .before .before .before .before .before .loop-test .taken) (l .loop .inv .1) (c .before .before .before .before .before .before .before .row-at .ensures) (c .before .before .before .before .put-value .ensures))
+    let l = c .before .before .before .before .before .before .before .before in
+    let a = c .before .before .before .before .before .before .before .before .before .before .before .before .before in
+    (omega arith, gathered-more _ _ _ _ _ _ (a .pre .2) (a .pre .0) (l .loop .i) (c .before .before .before .before .before .before .before .loop-test .taken) (l .loop .inv .1) (c .before .before .before .before .before .before .row-at .ensures) (c .before .before .before .put-value .ensures))
 
 returns : tie.Need-returns Inv-loop μ-loop
 returns c = gathered-all _ _ _ _ _ _ (c .before .loop .i) (omega arith) (c .before .loop .inv .1)
@@ -104,8 +104,8 @@ gather-values-spec =
     slice-aggregate-put-value
     put-value-requires
     cast-t20
-    cast-t21
     mul-t15
+    cast-t21
     mul-attributes
     array-set-from-attributes
     add-at

@@ -2,7 +2,7 @@
 -- Assumes nothing.
 use denote.Ref.{now}
 use Rattle.initialisation.specs.Hearing.{Taken}
-use Rattle.initialisation.proofs.VstLaws.{Sendable, sends}
+use Rattle.initialisation.proofs.VstLaws.{Sendable, mark-ends, mark-part, sends}
 use borrow.Author.Needs.{needs}
 use Rattle.initialisation.proofs.hearing.send.Statement.{statement}
 use Rattle.initialisation.proofs.hearing.send.Tie as tie
@@ -19,6 +19,24 @@ array-set-from-entries c = search needs
 vst-of-requires : tie.Need-vst-of-requires
 vst-of-requires c κs = search needs
 
+cast-first : tie.Need-cast-first
+cast-first c = search needs
+
+cast-mark : tie.Need-cast-mark
+cast-mark c = search needs
+
+add-mark : tie.Need-add-mark
+add-mark c = search needs
+
+sub-mark : tie.Need-sub-mark
+sub-mark c = search needs
+
+part-mark-start : tie.Need-part-mark-start
+part-mark-start c = search needs
+
+part-mark-end : tie.Need-part-mark-end
+part-mark-end c = mark-ends _ _ (c .before .before .before .before .before .before .before .pre .1)
+
 no-rows-requires : tie.Need-no-rows-requires
 no-rows-requires c κs = search needs
 
@@ -33,10 +51,10 @@ same-length c = search needs
 
 returns : tie.Need-returns
 returns c =
-    let a = c .before .before .before .before .before .before .before .before .before .before .before in
+    let a = c .before .before .before .before .before .before .before .before .before .before .before .before .before .before in
     let t : Taken = record { profile = a .args .profile; element = a .args .element } in
     let can : Sendable (now (a .args .marks)) t (a .args .configuration) = record { served = a .pre .0; sound = a .pre .1; ranges = a .pre .2 } in
-    sends _ t _ can _ _ (a .pre .3) (c .before .before .before .before .before .before .vst-of .ensures) (c .before .before .before .before .before .before .before .entry-of .ensures) (c .before .before .before .before .before .before .before .before .no-entries .ensures) _ (c .octets-of .ensures) (c .before .before .before .write .ensures .0) (c .before .before .before .write .ensures .1)
+    sends _ t _ can _ _ (a .pre .3) (c .before .before .before .before .before .before .before .before .before .vst-of .ensures) (c .before .before .before .before .before .before .before .before .before .before .entry-of .ensures) (c .before .before .before .before .before .before .before .before .before .before .before .no-entries .ensures) (mark-part _ (a .args .element)) _ (c .octets-of .ensures) (c .before .before .before .write .ensures .0) (c .before .before .before .write .ensures .1)
 
 pub send-spec : {M : Type 1} → statement M
 send-spec =
@@ -46,6 +64,12 @@ send-spec =
     entry-of-requires
     array-set-from-entries
     vst-of-requires
+    cast-first
+    cast-mark
+    add-mark
+    sub-mark
+    part-mark-start
+    part-mark-end
     no-rows-requires
     write-requires
     octets-of-requires
