@@ -24,6 +24,7 @@ pub use limits::OCTET_STRING;
 pub use lists::Entry;
 pub use lists::Lists;
 pub use lists::Row;
+pub use lists::clamped;
 pub use lists::entry_rows;
 pub use lists::no_entries;
 pub use lists::no_rows;

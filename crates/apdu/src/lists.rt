@@ -2,7 +2,8 @@
 // without gaps, so that an array of them is cleared and copied as one block. A start is a bit place in the lent octets.
 ghost use mathlib.Core.Path.{_≡_};
 ghost use lib.ListN.{replicate};
-ghost use Prim.Native.Nat.{_<_};
+ghost use Prim.Native.Nat.{_-_, _<_, _≤_};
+ghost use Rattle.apdu.specs.Tables.{lesser};
 ghost use Rattle.apdu.specs.Values.{emptyRow, emptyEntry, entryRows};
 
 // An attribute and its container: n is a string's length, an EID, or a count; a list of n rows is followed by its rows.
@@ -30,6 +31,19 @@ pub fn entry_rows(e: Entry) -> usize
     ensures { λ r. ⌜ (r ≡ entryRows e) × (r < 256) ⌝ }
 {
     if e.has_parameter { e.rows as usize } else { 0 }
+}
+
+// How many of `count` places from `first` on are among 32.
+pub fn clamped(first: usize, count: usize) -> usize
+    ensures { λ r. ⌜ (r ≡ lesser (32 - first) count) × (r ≤ 32 - first) ⌝ }
+{
+    if 32 <= first {
+        return 0;
+    }
+    if 32 - first < count {
+        return 32 - first;
+    }
+    count
 }
 
 // The entries and rows of a message, in its order; unused ones are 0.

@@ -13,7 +13,7 @@ use Rattle.apdu_format.specs.Limits.{deepest}
 use Rattle.apdu_format.specs.Component.{Component, choice, lead, integer, fixed, stringForm, stringLength, stringOctets, idCount, listStart, rowCount, entryCount, entry, container, class, octetString, dsrcEid, attributeIdList, attributeList}
 use Rattle.apdu_format.specs.Table.{Part, always, given, Layout, layout, table, layoutOf}
 use Rattle.apdu_format.specs.Rules.{shape, checksOf, brings, content, present, times, when, isSet, after}
-use Rattle.apdu_format.specs.Reading.{numbersOf, valueAt, State, Step, faultOf, judged, step, through, run, levels}
+use Rattle.apdu_format.specs.Reading.{numbersOf, valueAt, State, Step, faultOf, judged, step, through, run}
 use Rattle.refusals.proofs.Tests.{by-test}
 use Rattle.apdu_format.proofs.Tests.{both}
 use Rattle.apdu_format.proofs.Rewriting.{no-fault}

@@ -30,7 +30,7 @@ use Rattle.apdu.specs.RowCounters.{row, total}
 use Rattle.apdu_reading.specs.Lists.{Leads, Ready, Filled}
 use Rattle.apdu_reading.specs.Optional.{HeadMaybe, AttributesMaybe}
 use Rattle.apdu_reading.specs.Messages.{unread}
-use Rattle.apdu_reading.proofs.Chains.{Same, same-fault, state-log, valued, clean}
+use Rattle.apdu_reading.proofs.Chains.{Same, state-log, valued, clean}
 
 -- ---- leads and readings
 

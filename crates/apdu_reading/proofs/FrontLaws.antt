@@ -8,16 +8,14 @@ use mathlib.Core.Logic.{_⊎_, inl, inr}
 use native.Mathlib.Omega.{arith}
 use lib.ListN.{length}
 use lib.Dec.{eqb, ltb}
-use borrow.Author.Tests.{eq-eqb, ne-eqb, le-ltb, lt-ltb, eqb-true, eqb-false, ltb-true, ltb-false}
+use borrow.Author.Tests.{eq-eqb, ne-eqb, le-ltb, lt-ltb, eqb-true, eqb-false}
 use Rattle.refusals.proofs.Tests.{by-cases}
-use Rattle.bits.specs.Bits.{bits}
 use Rattle.apdu_format.specs.Limits.{longestMessage}
 use Rattle.apdu_format.specs.Component.{choice}
-use Rattle.apdu_format.specs.Reading.{octetOf, refused, message, outcome, readFront, alone, readMessage}
+use Rattle.apdu_format.specs.Reading.{octetOf, refused, outcome, readFront, alone, readMessage}
 use Rattle.apdu.specs.declared.lists.Entry.{Entry}
 use Rattle.apdu.specs.declared.lists.Lists.{Lists}
 use Rattle.apdu.specs.declared.records.Message.{Message}
-use Rattle.apdu.specs.Values.{valuesOf}
 use Rattle.apdu_reading.specs.declared.cursor.Cursor.{Cursor}
 use Rattle.apdu_reading.specs.declared.front.Answer.{Answer}
 use Rattle.apdu_reading.specs.declared.front.Answer.the-variants as answer

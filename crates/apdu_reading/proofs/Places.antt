@@ -1,8 +1,8 @@
 -- A start as rows and entries hold it: behind no fault it lies inside the message, and nothing is cut off; behind a fault nothing is said of it.
 -- Assumes nothing.
 use Prim.Native.Nat.{ℕ, suc, _%_, _≤_}
-use mathlib.Core.Path.{_≡_, refl, ap, sym, _∙_}
-use mathlib.Core.List.{List, _++_}
+use mathlib.Core.Path.{_≡_, refl, ap, _∙_}
+use mathlib.Core.List.{List}
 use mathlib.Core.Bool.{Bool, true}
 use native.Mathlib.Omega.{arith}
 use lib.ListN.{length}
@@ -14,7 +14,6 @@ use Rattle.bits.proofs.Strings.{inside-le}
 use Rattle.apdu_format.specs.Component.{octetString, attributeIdList}
 use Rattle.apdu_format.specs.Rules.{times}
 use Rattle.apdu_format.specs.Reading.{runs}
-use Rattle.apdu.specs.Values.{if, headValues}
 use Rattle.apdu.specs.Tidy.{startTidy}
 use Rattle.apdu.specs.Sound.{nested, partFits}
 use Rattle.apdu.specs.RowCounters.{row}

@@ -36,7 +36,7 @@ use Rattle.apdu_reading.specs.Lists.{Ready, Filled}
 use Rattle.apdu_reading.specs.Optional.{Maybe, HeadMaybe, AttributesMaybe}
 use Rattle.apdu_reading.specs.Answers.{Chosen}
 use Rattle.apdu_reading.specs.Messages.{Begun, MessageRead, closedBy, dueOf, unread, Opens}
-use Rattle.apdu_reading.proofs.Chains.{Same, same-fault, itself, nothing, then, saying, clean}
+use Rattle.apdu_reading.proofs.Chains.{same-fault, itself, nothing, then, saying, clean}
 use Rattle.apdu_reading.proofs.Strings.{integer-reads, integer-room}
 use Rattle.apdu_reading.proofs.Boxes.{fresh, Boxed, boxed, box-room, Listed, listed, list-room, stays, rowless, rowless-tidy}
 use Rattle.apdu_reading.proofs.Leads.{set-bit, narrow, saw-four, saw-three, lead-in, lead-four, lead-three, lead-room, absent-value, absent-part}

@@ -1,6 +1,5 @@
 // Containers up to their attribute rows, and the next row.
 ghost use mathlib.Core.Path.{_≡_};
-ghost use mathlib.Core.List.{[], _∷_};
 ghost use Prim.Native.Nat.{_%_, _<_, _≤_};
 ghost use lib.ListN.{length};
 ghost use Rattle.apdu.specs.RowCounters.{total};

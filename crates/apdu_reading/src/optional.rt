@@ -1,11 +1,8 @@
 // Components that may be absent: nothing is read, and the value is 0.
-ghost use mathlib.Core.Path.{_≡_};
 ghost use mathlib.Core.List.{[], _∷_};
-ghost use mathlib.Core.Bool.{true, false};
-ghost use Prim.Native.Nat.{_<_, _≤_};
+ghost use Prim.Native.Nat.{_≤_};
 ghost use lib.ListN.{length};
 ghost use Rattle.apdu_format.specs.Component.{integer, stringForm, idCount};
-ghost use Rattle.apdu_format.specs.Rules.{when};
 ghost use Rattle.apdu.specs.Values.{num-if, if, str, idList};
 ghost use Rattle.apdu_reading.specs.Cursor.{Inside};
 ghost use Rattle.apdu_reading.specs.Optional.{Maybe, HeadMaybe, AttributesMaybe};

@@ -1,14 +1,14 @@
 -- Application entries of two records: the loop that compares them, and what it says of their values.
 -- Assumes nothing.
-use Prim.Native.Nat.{ℕ, zero, suc, _+_, _-_, _<_}
+use Prim.Native.Nat.{ℕ, zero, suc, _+_, _<_}
 use mathlib.Core.Path.{_≡_, refl, ap, sym, _∙_}
 use mathlib.Core.List.{List, [], _∷_, _++_}
 use mathlib.Core.Bool.{Bool, true, false, _&&_, not}
 use native.Mathlib.Omega.{arith}
 use native.Mathlib.Numerals.{add-one}
 use lib.Dec.{eqb}
-use lib.ListN.{length, take, drop, getD, length-drop, length-take}
-use lib.Seq.{drop-cons, drop-drop, take-suc, getD-take, getD-drop}
+use lib.ListN.{length, take, drop, getD}
+use lib.Seq.{drop-cons, drop-drop, take-suc}
 use borrow.Author.Tests.{eqb-true, not-true, not-false}
 use Rattle.refusals.specs.Check.{pick}
 use Rattle.apdu_format.proofs.Tests.{both}
@@ -16,8 +16,8 @@ use Rattle.apdu.specs.declared.lists.Row.{Row}
 use Rattle.apdu.specs.declared.lists.Entry.{Entry}
 use Rattle.apdu.specs.Values.{bitOf, num, emptyEntry, entryValues, entriesValues, entryRows, rowsOf}
 use Rattle.apdu.specs.Sound.{entrySound, entriesSound}
-use Rattle.apdu_writing.specs.Quill.{clampedTo}
-use Rattle.apdu_writing.proofs.RowLists.{clamp-take, clamp-length}
+use Rattle.apdu.specs.Tables.{lesser}
+use Rattle.apdu.proofs.Tables.{lesser-take}
 use Rattle.apdu.proofs.Laws.{rows-of-snoc, own-values}
 use Rattle.apdu_same.specs.Walk.{sameIf, sameHead, sameRows, sameBox, sameEntry, listsRows, sameEntries, sameApplications, Agree}
 use Rattle.apdu_same.proofs.Agreement.{agree-as, agree-none, agree-then, agree-number, begin, then, step-if, before, given, Lead, lead-last, lead-more, lead-agrees, flag-first}
@@ -35,18 +35,9 @@ rows-more es i {e} f o h g =
     rw (o, g) (sym (rows-of-snoc (take i es) e))
     ∙ ap (λ (x : Entry). rowsOf (take i es ++ (x ∷ []))) f ∙ ap rowsOf (sym (take-suc es i emptyEntry h)) ∙ ap (λ (k : ℕ). rowsOf (take k es)) (sym (add-one i))
 
-pub rows-whole : (es : List Entry) (n i : ℕ) {used : ℕ} → length es ≡ 32 → i ≡ clampedTo 32 n → used ≡ rowsOf (take i es) → used ≡ rowsOf (take n es)
+pub rows-whole : (es : List Entry) (n i : ℕ) {used : ℕ} → length es ≡ 32 → i ≡ lesser 32 n → used ≡ rowsOf (take i es) → used ≡ rowsOf (take n es)
 rows-whole es n i e f g =
-    g ∙ ap (λ (k : ℕ). rowsOf (take k es)) (f ∙ ap (λ (k : ℕ). clampedTo k n) (sym e)) ∙ ap rowsOf (clamp-take n es)
-
--- the entries from one on, as many as there are
-pub part-entries : (list : List Entry) (from n : ℕ) {k : ℕ} → length list ≡ 32 → k ≡ clampedTo (32 - from) n → k ≡ length (take n (drop from list))
-part-entries list from n e f = f ∙ sym (clamp-length n (drop from list) (length-drop from list ∙ ap (λ (k : ℕ). k - from) e))
-
-pub part-entry : (list : List Entry) (from n i : ℕ) {k : ℕ} → k ≡ length (take n (drop from list)) → i < k
-    → getD list (from + i) emptyEntry ≡ getD (take n (drop from list)) i emptyEntry
-part-entry list from n i e h =
-    sym (getD-drop from list i emptyEntry) ∙ sym (getD-take n (drop from list) i emptyEntry (omega (arith, length-take n (drop from list))))
+    g ∙ ap (λ (k : ℕ). rowsOf (take k es)) (f ∙ ap (λ (k : ℕ). lesser k n) (sym e)) ∙ ap rowsOf (lesser-take n es)
 
 -- ---- one entry
 

@@ -6,11 +6,11 @@ ghost use Rattle.apdu.specs.Values.{rowsOf};
 ghost use Rattle.apdu_same.specs.Walk.{sameIf, sameEntry, listsRows, sameEntries, sameApplications};
 use crate::fields::flag;
 use crate::fields::number_if;
-use crate::rows::clamped;
 use crate::rows::head;
 use crate::rows::rows;
 use apdu::Entry;
 use apdu::Row;
+use apdu::clamped;
 use apdu::entry_rows;
 
 // Two entries without the rows of their parameters.

@@ -1,10 +1,10 @@
 // Containers and attribute rows of two records.
 ghost use mathlib.Core.Path.{_≡_};
-ghost use Prim.Native.Nat.{_-_, _≤_};
+ghost use Prim.Native.Nat.{_-_};
 ghost use lib.ListN.{take, drop};
-ghost use Rattle.apdu_writing.specs.Quill.{clampedTo};
 ghost use Rattle.apdu_same.specs.Walk.{sameIf, sameHead, sameRow, sameRows, sameBox, sameList};
 use apdu::Row;
+use apdu::clamped;
 
 // Two containers without their rows.
 pub(crate) fn head(
@@ -48,19 +48,6 @@ fn row(s: &[u8], v: Row, t: &[u8], w: Row) -> bool
         w.n as u64,
         w.start as usize,
     )
-}
-
-// How many of `count` places from `first` on are among 32.
-pub(crate) fn clamped(first: usize, count: usize) -> usize
-    ensures { λ r. ⌜ (r ≡ clampedTo (32 - first) count) × (r ≤ 32 - first) ⌝ }
-{
-    if 32 <= first {
-        return 0;
-    }
-    if 32 - first < count {
-        return 32 - first;
-    }
-    count
 }
 
 // The `count` rows of one table from `first` on, and the `size` rows of the other from `from` on.

@@ -1,13 +1,13 @@
 -- Laws of application entries one after the other, each with its rows, and of messages of every kind.
 -- Assumes nothing.
-use Prim.Native.Nat.{ℕ, zero, suc, _+_, _-_, _*_, _≤_, _<_}
+use Prim.Native.Nat.{ℕ, _+_, _≤_, _<_}
 use mathlib.Core.Path.{_≡_, refl, ap, sym, _∙_}
-use mathlib.Core.Bool.{Bool, true, false}
+use mathlib.Core.Bool.{Bool}
 use mathlib.Core.List.{List, [], _∷_, _++_, append-assoc, append-nil}
 use native.Mathlib.Omega.{arith}
 use native.Mathlib.Numerals.{add-one}
 use lib.ListN.{length, take, drop, getD, drop-of-length-le}
-use lib.Seq.{take-all, take-suc, drop-drop, getD-drop, getD-take}
+use lib.Seq.{take-all, take-suc, drop-drop, getD-drop}
 use Rattle.apdu.specs.declared.lists.Row.{Row}
 use Rattle.apdu.specs.declared.lists.Entry.{Entry}
 use Rattle.apdu.specs.declared.records.Message.{Message}
@@ -16,7 +16,7 @@ use Rattle.apdu.proofs.Laws.{rows-of-snoc}
 use Rattle.apdu_text.specs.Parts.{when, between, entryText, entriesText, entryList}
 use Rattle.apdu_text.specs.MessageText.{messageText}
 use Rattle.apdu_text.specs.Ink.{Inks}
-use Rattle.apdu_text.proofs.Inking.{Leaves, leaves-more, leaves-none, leaves-as, inks-then, inks-as}
+use Rattle.apdu_text.proofs.Inking.{Leaves, leaves-more, leaves-none, leaves-as, inks-then}
 use Rattle.apdu_text.proofs.Flat.{part-at}
 
 -- an entry is shown with its own rows

@@ -1,24 +1,24 @@
 -- Laws of rows that lie flat: how many there are, what is left of them, and the open lists.
 -- Assumes nothing.
-use Prim.Native.Nat.{ℕ, zero, suc, _+_, _-_, _*_, _≤_, _<_}
+use Prim.Native.Nat.{ℕ, zero, suc, _+_, _-_, _≤_, _<_}
 use mathlib.Core.Path.{_≡_, refl, ap, sym, _∙_}
-use mathlib.Core.Bool.{Bool, true, false, not}
-use mathlib.Core.List.{List, [], _∷_, _++_, map, append-assoc, append-nil}
+use mathlib.Core.Bool.{true, false}
+use mathlib.Core.List.{List, [], _∷_, _++_, append-assoc, append-nil}
 use native.Mathlib.Omega.{arith}
 use native.Mathlib.Numerals.{add-one}
-use lib.Dec.{eqb, ltb}
-use lib.ListN.{length, take, drop, getD, set, length-map, length-take, length-drop, length-set, drop-of-length-le}
-use lib.Seq.{take-all, length-take-le, getD-take, getD-drop, drop-cons, getD-set-same, getD-set-other}
-use borrow.Author.Tests.{eq-eqb, ne-eqb, lt-ltb, le-ltb, ltb-true, ltb-false}
+use lib.Dec.{eqb}
+use lib.ListN.{length, take, drop, getD, set, length-set, drop-of-length-le}
+use lib.Seq.{drop-cons, getD-set-same, getD-set-other}
+use borrow.Author.Tests.{eq-eqb, ne-eqb}
 use Rattle.refusals.specs.Check.{pick}
-use Rattle.refusals.proofs.Tests.{by-test}
 use Rattle.apdu.specs.declared.lists.Row.{Row}
 use Rattle.apdu.specs.Values.{emptyRow}
 use Rattle.apdu.specs.Sound.{nested}
+use Rattle.apdu.proofs.Tables.{part-place}
 use Rattle.apdu_text.specs.Words.{refusedWith, atPlace}
 use Rattle.apdu_text.specs.Parts.{decimal, when, seam, goingOn, opened, rowFront, rowsText}
 use Rattle.apdu_text.specs.Lines.{refusalText}
-use Rattle.apdu_text.specs.Ink.{Inks, stackOf, lesser}
+use Rattle.apdu_text.specs.Ink.{Inks, stackOf}
 use Rattle.apdu_text.proofs.Inking.{Leaves, leaves-all, leaves-more, leaves-none, leaves-as, none-inks, inks-then, inks-as}
 use Rattle.apdu_text.proofs.Pieces.{stack-front}
 
@@ -34,47 +34,16 @@ module _ (number position : ℕ) {at m : ℕ} {o p : List ℕ} where
   unfolding refusalText
   refusal-more e x y = inks-as (rw (ne-eqb number 0 e) (append-assoc refusedWith (decimal number) (atPlace ++ decimal position))) (inks-then x y)
 
--- ---- how many
-
-module _ (most n : ℕ) where
-  pub lesser-none : most ≡ 0 → 0 ≡ lesser most n
-  unfolding lesser
-  lesser-none e = by-test (λ (k : ℕ). 0 ≡ k) (ltb most n) (λ h. sym e) (λ h. omega (arith, ltb-false most n h))
-
-  pub lesser-most : most < n → most ≡ lesser most n
-  unfolding lesser
-  lesser-most h = rw (lt-ltb most n h)
-
-  pub lesser-all : n ≤ most → n ≡ lesser most n
-  unfolding lesser
-  lesser-all h = rw (le-ltb most n h)
-
 pub rows-announced : (s : List ℕ) (rs : List Row) {n k : ℕ} {at r : ℕ} {o q : List ℕ} → n ≡ k → Inks (rowsText s (opened n []) rs) at r o q → Inks (rowsText s (opened k []) rs) at r o q
 rows-announced s rs e x = rw e at x
 
 -- ---- a part of a table
 
--- an array of structs is as long as its values
-pub long : (A B : Type 0) (f : A → B) (l : List A) (n : ℕ) → length (map f l) ≡ n → length l ≡ n
-long A B f l n e = sym (length-map l f) ∙ e
-
-lesser-length : {A : Type 0} (n : ℕ) (l : List A) {most : ℕ} → length l ≡ most → length (take n l) ≡ lesser most n
-unfolding lesser
-lesser-length n l {most} e =
-    by-test (λ (k : ℕ). length (take n l) ≡ k) (ltb most n)
-    (λ h. ap length (take-all n l (omega (arith, ltb-true most n h))) ∙ e) (λ h. length-take-le n l (omega (arith, ltb-false most n h)))
-
--- so many of count elements of a table of 32 from first on
-pub part-length : {A : Type 0} (table : List A) (first count : ℕ) {n : ℕ} → length table ≡ 32 → n ≡ lesser (32 - first) count → n ≡ length (take count (drop first table))
-part-length table first count e f = f ∙ sym (lesser-length count (drop first table) (length-drop first table ∙ ap (λ (k : ℕ). k - first) e))
-
 pub part-at : {A : Type 0} (table : List A) (first count i : ℕ) (d : A) → i < length (take count (drop first table))
     → drop i (take count (drop first table)) ≡ getD table (first + i) d ∷ drop (i + 1) (take count (drop first table))
 part-at table first count i d h =
     let p = take count (drop first table) in
-    let e : getD p i d ≡ getD table (first + i) d =
-    getD-take count (drop first table) i d (omega (arith, length-take count (drop first table))) ∙ getD-drop first table i d in
-    drop-cons p i d h ∙ rw (e, ← add-one i)
+    drop-cons p i d h ∙ rw (← part-place d table first count i refl h, ← add-one i)
 
 -- ---- open lists in an array
 

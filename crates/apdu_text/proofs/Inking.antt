@@ -1,16 +1,16 @@
 -- Laws of the pen: texts one behind the other, and when a measured text has room.
 -- Assumes nothing.
-use Prim.Native.Nat.{ℕ, zero, suc, _+_, _-_, _≤_, _<_}
+use Prim.Native.Nat.{ℕ, suc, _+_, _≤_, _<_}
 use mathlib.Core.Path.{_≡_, refl, ap, sym, _∙_}
 use mathlib.Core.Bool.{Bool, true, false}
 use mathlib.Core.List.{List, [], _∷_, _++_, append-assoc}
 use native.Mathlib.Omega.{arith}
 use native.Mathlib.Numerals.{add-one}
-use lib.Dec.{ltb, leb}
+use lib.Dec.{ltb}
 use lib.ListN.{length, take, drop, set}
 use lib.Seq.{sets, set-out, sets-eq}
 use borrow.Author.Tests.{lt-ltb, le-ltb, lt-leb, le-leb}
-use Rattle.refusals.specs.Check.{pick, accepted}
+use Rattle.refusals.specs.Check.{accepted}
 use Rattle.refusals.proofs.Tests.{by-test}
 use Rattle.bench_lines.specs.Text.{written, hasRoom, appendText, appendedAnswer, outputAfter}
 use Rattle.bench_lines.specs.declared.Appended.the-variants as appended

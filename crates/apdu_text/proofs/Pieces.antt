@@ -5,21 +5,19 @@ use mathlib.Core.Path.{_≡_, refl, ap, sym, _∙_}
 use mathlib.Core.Bool.{Bool, true, false, _&&_, not}
 use mathlib.Core.List.{List, [], _∷_, _++_, append-assoc}
 use native.Mathlib.Omega.{arith}
-use lib.Dec.{eqb, leb}
+use lib.Dec.{leb}
 use lib.ListN.{length, getD}
 use borrow.Author.Tests.{eq-eqb, ne-eqb, leb-true, not-true, not-false}
-use Rattle.refusals.specs.Check.{pick}
 use Rattle.refusals.proofs.Tests.{by-test, by-cases, and-true, and-left, and-right}
 use Rattle.bits.specs.Bits.{field}
 use Rattle.bits.specs.Strings.{isInside, stringAt}
 use Rattle.bench_lines.specs.Numerals.{digitFor}
 use Rattle.bench_lines.specs.Line.{hexText}
 use Rattle.apdu.specs.Sound.{nested}
-use Rattle.apdu.specs.Values.{bitOf}
 use Rattle.apdu_text.specs.Words.{octetsOf, eidOf, idsOf, attributesOf}
-use Rattle.apdu_text.specs.Parts.{decimal, shown, partAt, when, between, numbers, numberList, listFront, containerFront, seam, goingOn}
+use Rattle.apdu_text.specs.Parts.{decimal, shown, partAt, between, numbers, numberList, listFront, containerFront, seam, goingOn}
 use Rattle.apdu_text.specs.Ink.{Inks, stackOf}
-use Rattle.apdu_text.proofs.Inking.{Leaves, leaves-all, leaves-more, leaves-none, leaves-as, none-inks, inks-then, inks-as}
+use Rattle.apdu_text.proofs.Inking.{Leaves, leaves-more, leaves-none, leaves-as, none-inks, inks-then}
 
 -- ---- how many octets of a part are shown
 

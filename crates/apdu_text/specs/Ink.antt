@@ -4,11 +4,9 @@
 use Prim.Native.Nat.{ℕ, zero, suc, _+_}
 use mathlib.Core.Path.{_≡_}
 use mathlib.Core.List.{List, [], _∷_}
-use lib.ListN.{length, getD, set}
+use lib.ListN.{getD, set}
 use lib.Dec.{ltb}
 use Rattle.refusals.specs.Check.{pick}
-use Rattle.apdu.specs.Values.{rowsOf}
-use Rattle.apdu.specs.declared.lists.Entry.{Entry}
 
 -- the largest place
 abbrev pub farthest : ℕ
@@ -37,7 +35,3 @@ pub record Inks (text : List ℕ) (at r : ℕ) (out after : List ℕ) : Type 0 w
 unfoldable pub stackOf : List ℕ → ℕ → List ℕ
 stackOf due zero = []
 stackOf due (suc depth) = getD due depth 0 ∷ stackOf due depth
-
--- the lesser of two numbers
-unfoldable pub lesser : ℕ → ℕ → ℕ
-lesser most n = pick (ltb most n) most n

@@ -1,7 +1,7 @@
 // Application entries with their attribute rows.
 ghost use mathlib.Core.Path.{_≡_};
 ghost use mathlib.Core.List.{_++_};
-ghost use Prim.Native.Nat.{_+_, _*_, _≤_};
+ghost use Prim.Native.Nat.{_+_, _≤_};
 ghost use lib.ListN.{take, drop};
 ghost use Rattle.apdu.specs.Values.{entryRows, rowsOf};
 ghost use Rattle.apdu_text.specs.Parts.{entryText, entryList};
@@ -10,10 +10,10 @@ use crate::fields::number_if;
 use crate::pen::put;
 use crate::pen::put_decimal;
 use crate::pen::put_word;
-use crate::rows::clamped;
 use crate::rows::container_if;
 use apdu::Entry;
 use apdu::Row;
+use apdu::clamped;
 use apdu::entry_rows;
 
 // One entry; its rows start at `first`.

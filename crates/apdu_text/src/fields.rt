@@ -1,7 +1,6 @@
 // Fields that are numbers, strings or lists of numbers.
 ghost use mathlib.Core.Path.{_≡_};
 ghost use mathlib.Core.List.{_++_};
-ghost use lib.ListN.{length};
 ghost use Prim.Native.Nat.{_+_, _*_, _<_};
 ghost use Rattle.bits.specs.Bits.{field};
 ghost use Rattle.bench_lines.specs.Line.{hexText};

@@ -1,5 +1,4 @@
 // A message of any kind.
-ghost use mathlib.Core.Path.{_≡_};
 ghost use Rattle.apdu_text.specs.MessageText.{messageText};
 ghost use Rattle.apdu_text.specs.Ink.{Inks};
 use crate::kinds::action_response;

@@ -1,8 +1,7 @@
 // The pen: a place in the output, by value. A character is set where the output has room, and the place goes on: so one code measures and writes.
 ghost use mathlib.Core.Path.{_≡_};
-ghost use Prim.Native.Nat.{_+_, _/_, _%_, _<_, _≤_};
+ghost use Prim.Native.Nat.{_+_, _/_, _%_, _<_};
 ghost use mathlib.Core.List.{[], _∷_};
-ghost use lib.ListN.{length};
 ghost use Rattle.bench_lines.specs.Numerals.{digitFor};
 ghost use Rattle.bench_lines.specs.Line.{hexText};
 ghost use Rattle.apdu_text.specs.Parts.{decimal};

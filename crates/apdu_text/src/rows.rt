@@ -1,11 +1,11 @@
 // Attribute rows: they lie flat, those of a list behind it.
 ghost use mathlib.Core.Path.{_≡_};
 ghost use mathlib.Core.List.{[], _++_};
-ghost use Prim.Native.Nat.{_-_, _≤_};
+ghost use Prim.Native.Nat.{_-_};
 ghost use lib.ListN.{take, drop};
 ghost use Rattle.apdu_text.specs.Parts.{when, opened, rowsText, containerText, attributeRows};
 ghost use Rattle.apdu_text.specs.Words.{attributesIs};
-ghost use Rattle.apdu_text.specs.Ink.{Inks, lesser};
+ghost use Rattle.apdu_text.specs.Ink.{Inks};
 use crate::containers::announces;
 use crate::containers::container_front;
 use crate::containers::going_on;
@@ -14,19 +14,7 @@ use crate::containers::put_seam;
 use crate::containers::row_front;
 use crate::pen::put_word;
 use apdu::Row;
-
-// How many of `count` places from `first` on are among 32.
-pub(crate) fn clamped(first: usize, count: usize) -> usize
-    ensures { λ r. ⌜ (r ≡ lesser (32 - first) count) × (r ≤ 32 - first) ⌝ }
-{
-    if 32 <= first {
-        return 0;
-    }
-    if 32 - first < count {
-        return 32 - first;
-    }
-    count
-}
+use apdu::clamped;
 
 fn less(n: u64) -> u64
     ensures { λ r. ⌜ r ≡ n - 1 ⌝ }

@@ -1,6 +1,6 @@
 -- Counts, container kinds and lists of ids: which values are in range, and what they bring.
 -- Assumes nothing.
-use Prim.Native.Nat.{ℕ, _+_, _-_, _*_, _<_}
+use Prim.Native.Nat.{ℕ, _+_, _*_, _<_}
 use mathlib.Core.Path.{_≡_, refl, ap, sym, _∙_}
 use mathlib.Core.List.{List, [], _∷_, _++_}
 use mathlib.Core.Bool.{Bool, true, _&&_, _||_, not}
@@ -10,7 +10,7 @@ use lib.Dec.{ltb, leb, eqb}
 use borrow.Author.Tests.{leb-true, leb-false, lt-ltb, le-ltb, eqb-true, not-true}
 use Rattle.refusals.specs.Check.{pick, firstOf}
 use Rattle.refusals.proofs.Tests.{by-cases, and-right}
-use Rattle.bits.specs.Bits.{number, writeField}
+use Rattle.bits.specs.Bits.{writeField}
 use Rattle.bits.specs.Strings.{isInside, firstBitsClear, writeString}
 use Rattle.apdu_format.specs.Component.{Component, integer, idCount, listStart, rowCount, entryCount, entry, container}
 use Rattle.apdu_format.specs.Rules.{widths, shape, checksOf, brings, announced, content, knownKind, times}

@@ -2,16 +2,16 @@
 -- Assumes nothing.
 use Prim.Native.Nat.{ℕ, suc, _+_, _-_, _≤_, _<_}
 use mathlib.Core.Path.{_≡_, refl, ap, sym, _∙_}
-use mathlib.Core.List.{map, List, [], _∷_, _++_, append-assoc}
+use mathlib.Core.List.{List, [], _∷_, _++_, append-assoc}
 use mathlib.Core.Bool.{Bool, true, false, _&&_}
 use mathlib.Core.Logic.{_⊎_, inl, inr}
 use native.Mathlib.Omega.{arith}
 use native.Mathlib.Numerals.{add-one}
-use lib.ListN.{length-map, length-take, length, take, drop, getD, take-append-drop, length-drop}
-use lib.Seq.{take-suc, drop-cons, take-all, length-take-le, getD-take, getD-drop}
-use lib.Dec.{eqb, ltb}
-use borrow.Author.Tests.{eqb-true, eqb-false, eq-eqb, ne-eqb, ltb-true, ltb-false, lt-ltb, le-ltb}
-use Rattle.refusals.proofs.Tests.{by-test, by-cases, and-true, and-left, and-right}
+use lib.ListN.{length, take, drop, getD, take-append-drop}
+use lib.Seq.{take-suc, drop-cons, take-all}
+use lib.Dec.{eqb}
+use borrow.Author.Tests.{eqb-true, eqb-false, eq-eqb, ne-eqb}
+use Rattle.refusals.proofs.Tests.{by-cases, and-true, and-left, and-right}
 use Rattle.apdu_format.specs.Component.{Component}
 use Rattle.apdu_format.specs.Reading.{Value}
 use Rattle.apdu_format.proofs.Tests.{never}
@@ -22,62 +22,23 @@ use Rattle.apdu_writing.specs.declared.quill.Quill.{Quill}
 use Rattle.apdu.specs.declared.due.Due.{Due}
 use Rattle.apdu_writing.specs.declared.container.RowPut.{RowPut}
 use Rattle.apdu.specs.Sound.{partsFit, closes, rowsSound}
-use Rattle.apdu_writing.specs.Quill.{quill, Stops, Moves, Puts, halted, clampedTo}
+use Rattle.apdu_writing.specs.Quill.{quill, Stops, Moves, Puts, halted}
 use Rattle.apdu.specs.RowCounters.{total, dueList}
 use Rattle.apdu_writing.specs.Rows.{Next}
 use Rattle.apdu_writing.proofs.Chains.{nothing, then}
 use Rattle.apdu_writing.proofs.Heads.{clean}
+use Rattle.apdu.specs.Tables.{lesser}
 use Rattle.apdu.proofs.Dues.{due-none}
-
--- an array of structs is as long as its values
-pub long : (A B : Type 0) (f : A → B) (l : List A) (n : ℕ) → length (map f l) ≡ n → length l ≡ n
-long A B f l n e = sym (length-map l f) ∙ e
+use Rattle.apdu.proofs.Tables.{part-length}
 
 -- ---- how many
 
-module _ (most n : ℕ) where
-  pub clamp-none : most ≡ 0 → 0 ≡ clampedTo most n
-  unfolding clampedTo
-  clamp-none e = by-test (λ (k : ℕ). 0 ≡ k) (ltb most n) (λ h. sym e) (λ h. omega (arith, ltb-false most n h))
-
-  pub clamp-most : most < n → most ≡ clampedTo most n
-  unfolding clampedTo
-  clamp-most h = rw (lt-ltb most n h)
-
-  pub clamp-all : n ≤ most → n ≡ clampedTo most n
-  unfolding clampedTo
-  clamp-all h = rw (le-ltb most n h)
-
-  pub clamp-le : clampedTo most n ≤ most
-  unfolding clampedTo
-  clamp-le = by-test (λ (k : ℕ). k ≤ most) (ltb most n) (λ h. omega arith) (λ h. ltb-false most n h)
-
-pub clamp-length : {A : Type 0} (n : ℕ) (l : List A) {most : ℕ} → length l ≡ most → length (take n l) ≡ clampedTo most n
-unfolding clampedTo
-clamp-length n l {most} e =
-    by-test (λ (k : ℕ). length (take n l) ≡ k) (ltb most n)
-    (λ h. ap length (take-all n l (omega (arith, ltb-true most n h))) ∙ e) (λ h. length-take-le n l (omega (arith, ltb-false most n h)))
-
--- the rows from first on, as many as there are
-pub part-length : (table : List Row) (first count : ℕ) {n : ℕ} → length table ≡ 32 → n ≡ clampedTo (32 - first) count → n ≡ length (take count (drop first table))
-part-length table first count e f = f ∙ sym (clamp-length count (drop first table) (length-drop first table ∙ ap (λ (k : ℕ). k - first) e))
-
-module _ (table : List Row) (first count : ℕ) {i n : ℕ} (e : length table ≡ 32) (f : n ≡ clampedTo (32 - first) count) where
+module _ (table : List Row) (first count : ℕ) {i n : ℕ} (e : length table ≡ 32) (f : n ≡ lesser (32 - first) count) where
   pub part-in : i < n → i < length (take count (drop first table))
   part-in h = omega (arith, part-length table first count e f)
 
   pub part-end : i ≤ n → n ≤ i → i ≡ length (take count (drop first table))
   part-end h k = omega (arith, part-length table first count e f)
-
-pub part-row : (table : List Row) (first count i : ℕ) {n : ℕ} → n ≡ length (take count (drop first table)) → i < n
-    → getD table (first + i) emptyRow ≡ getD (take count (drop first table)) i emptyRow
-part-row table first count i e h =
-    sym (getD-drop first table i emptyRow) ∙ sym (getD-take count (drop first table) i emptyRow (omega (arith, length-take count (drop first table))))
-
--- as many of a list as there are
-pub clamp-take : {A : Type 0} (n : ℕ) (l : List A) → take (clampedTo (length l) n) l ≡ take n l
-unfolding clampedTo
-clamp-take n l = by-test (λ (k : ℕ). take k l ≡ take n l) (ltb (length l) n) (λ h. take-all (length l) l (omega arith) ∙ sym (take-all n l (omega (arith, ltb-true (length l) n h)))) (λ h. refl)
 
 module _ (u : Due) where
   pub due-5 : (u .d5 ≡ 0 → ⊥) → false ≡ eqb (total u) 0

@@ -41,10 +41,6 @@ pub record Put (k : ℕ) (fine : Bool) (c r : Quill) (x o o' : List ℕ) : Type 
 abbrev pub halted : Quill → Quill
 halted c = quill (c .at) (c .room) false
 
--- the lesser of two numbers
-unfoldable pub clampedTo : ℕ → ℕ → ℕ
-clampedTo most n = pick (ltb most n) most n
-
 unfoldable pub spent : ℕ → Quill → Quill
 spent n c = quill (c .at) (c .room - n) (c .ok)
 

@@ -1,16 +1,17 @@
 // Attribute rows, one after the other.
 ghost use mathlib.Core.Path.{_≡_};
-ghost use Prim.Native.Nat.{_-_, _≤_};
+ghost use Prim.Native.Nat.{_-_};
 ghost use lib.ListN.{length, take, drop};
 ghost use lib.Dec.{eqb};
 ghost use Rattle.apdu.specs.Values.{rowsValues};
-ghost use Rattle.apdu_writing.specs.Quill.{Puts, clampedTo, halted};
+ghost use Rattle.apdu_writing.specs.Quill.{Puts, halted};
 ghost use Rattle.apdu.specs.RowCounters.{total, dueList};
 ghost use Rattle.apdu.specs.Sound.{rowsSound};
 use crate::container::next_row;
 use crate::quill::Quill;
 use apdu::Due;
 use apdu::Row;
+use apdu::clamped;
 
 // Whether no row is due.
 fn finished(u: Due) -> bool
@@ -29,19 +30,6 @@ fn finished(u: Due) -> bool
         return false;
     }
     u.d1 == 0
-}
-
-// How many of `count` places from `first` on are among 32.
-pub(crate) fn clamped(first: usize, count: usize) -> usize
-    ensures { λ r. ⌜ (r ≡ clampedTo (32 - first) count) × (r ≤ 32 - first) ⌝ }
-{
-    if 32 <= first {
-        return 0;
-    }
-    if 32 - first < count {
-        return 32 - first;
-    }
-    count
 }
 
 pub(crate) fn halt(c: Quill) -> Quill

@@ -3,15 +3,15 @@
 -- Assumes nothing.
 use Prim.Native.Nat.{ℕ, zero, suc, _+_, _≤_}
 use mathlib.Core.Path.{_≡_, refl, ap, sym, _∙_}
-use mathlib.Core.Bool.{Bool, true, false, not, _&&_}
-use mathlib.Core.List.{List, [], _∷_, _++_, append-nil}
+use mathlib.Core.Bool.{Bool, true, not, _&&_}
+use mathlib.Core.List.{List, [], _∷_, append-nil}
 use native.Mathlib.Omega.{arith}
 use lib.Dec.{eqb, ltb}
 use lib.ListN.{length, take}
 use lib.Seq.{take-take}
 use borrow.Author.Tests.{eqb-true, le-ltb, not-false}
 use Rattle.refusals.specs.Check.{pick, check, firstOf}
-use Rattle.refusals.proofs.Tests.{by-test, by-cases, first-none, and-true}
+use Rattle.refusals.proofs.Tests.{by-test, first-none, and-true}
 use Rattle.bits.specs.Strings.{isInside, stringAt}
 use Rattle.apdu_format.proofs.Tests.{never, both}
 use Rattle.apdu.specs.declared.lists.Lists.{Lists}
@@ -25,8 +25,8 @@ use Rattle.apdu_reading.specs.declared.front.Answer.the-variants as answer
 use Rattle.apdu_reading.specs.declared.front.Reading.{Reading}
 use Rattle.apdu_reading.specs.Answers.{soundBy, SoundRecord}
 use Rattle.directory.specs.Directory.{soundDirectory, knownIn, rowOf}
-use Rattle.attributes.specs.Serving.{leastOutput, Attribute, Tag, Reply, refused, Effect, effect, sent, tooLong, exact, getStatus, getting, setFaults, setStatus, setRows, setting, served, carried, byReading, requested, valueOf, valuesIn, rowsOf, idsFrom, getReply}
-use Rattle.attribute_promises.specs.Promises.{Unnamed, holdsExact, Without, namedBy, KeepsRow, RowKept, ProtectedKept, afterwards, SetGives, SetThenGet}
+use Rattle.attributes.specs.Serving.{leastOutput, Attribute, Tag, Reply, Effect, sent, tooLong, exact, getStatus, getting, setFaults, setStatus, setRows, setting, served, carried, byReading, requested, valueOf, valuesIn, rowsOf, getReply}
+use Rattle.attribute_promises.specs.Promises.{Unnamed, holdsExact, Without, namedBy, KeepsRow, RowKept, ProtectedKept, SetGives, SetThenGet}
 use Rattle.attribute_promises.proofs.Kept.{row-kept, unnamed-if, set-then-get}
 
 -- ---- the values of a SET lie inside the request

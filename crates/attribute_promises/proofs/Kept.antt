@@ -1,7 +1,7 @@
 -- What a SET leaves: a row holds the last value set; a row that it does not name keeps its octets, and so does a protected row without the tag's exact
 -- credentials. The values lie inside the request, as reading says of every record (SoundRecord).
 -- Assumes nothing.
-use Prim.Native.Nat.{ℕ, zero, suc, _+_, _≤_, _<_}
+use Prim.Native.Nat.{ℕ, suc, _+_, _≤_, _<_}
 use mathlib.Core.Path.{_≡_, refl, ap, sym, _∙_}
 use mathlib.Core.Bool.{Bool, true, false, not, _&&_, _||_}
 use mathlib.Core.List.{List, [], _∷_, _++_}
@@ -9,10 +9,10 @@ use mathlib.Core.Logic.{_⊎_, inl, inr}
 use native.Mathlib.Nat.{add-zero}
 use native.Mathlib.Omega.{arith}
 use lib.Dec.{eqb, ltb, leb}
-use lib.ListN.{length, getD, take, drop, length-append, length-drop, take-append-drop}
+use lib.ListN.{length, take, drop, length-append, length-drop, take-append-drop}
 use lib.Seq.{length-take-le}
-use borrow.Author.Tests.{eq-eqb, ne-eqb, eqb-true, eqb-false, lt-ltb, le-ltb, ltb-true, ltb-false, le-leb, leb-true, not-true, not-false}
-use Rattle.refusals.specs.Check.{pick, firstOf}
+use borrow.Author.Tests.{eq-eqb, ne-eqb, eqb-true, eqb-false, lt-ltb, ltb-true, ltb-false, le-leb, leb-true, not-true, not-false}
+use Rattle.refusals.specs.Check.{firstOf}
 use Rattle.refusals.proofs.Tests.{by-cases, first-none, and-true}
 use Rattle.bits.specs.Strings.{isInside, stringAt, copyFits, copyString}
 use Rattle.bits.proofs.Strings.{length-string}
@@ -20,7 +20,7 @@ use Rattle.apdu_format.specs.Component.{octetString}
 use Rattle.apdu_format.proofs.Tests.{never, both}
 use Rattle.apdu.specs.Sound.{partFits, partsFit}
 use Rattle.directory.specs.declared.Row.{Row}
-use Rattle.directory.specs.Directory.{noRow, areaOctets, sameArea, shareOctet, clashes, apartFrom, allApart, eachSound, soundDirectory, indexOf, knownIn, rowOf}
+use Rattle.directory.specs.Directory.{shareOctet, clashes, apartFrom, allApart, eachSound, soundDirectory, indexOf, knownIn, rowOf}
 use Rattle.directory.proofs.Looking.{sound-row, inside-area, in-writable}
 use Rattle.attributes.specs.Serving.{Attribute, denied, setFault, setFaults, setRow, setRows, valueOf}
 use Rattle.attribute_promises.specs.Promises.{Unnamed}

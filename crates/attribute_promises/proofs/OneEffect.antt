@@ -28,7 +28,7 @@ use Rattle.attributes.specs.declared.answers.RequestOutcome.{RequestOutcome}
 use Rattle.attributes.specs.declared.answers.RequestOutcome.the-variants as outcome
 use Rattle.attributes.specs.declared.answers.RequestAnswer.{RequestAnswer}
 use Rattle.attributes.specs.Serving as serving
-use Rattle.attributes.specs.Serving.{Attribute, Tag, Effect, effect, served, getting, setting, carried, byReading, requested, toldOf, Answered}
+use Rattle.attributes.specs.Serving.{Attribute, Tag, Effect, served, getting, setting, carried, byReading, requested, toldOf, Answered}
 use Rattle.attribute_promises.specs.Promises.{Reads, OneEffect, Determined}
 use Rattle.attribute_promises.proofs.SameService.{none, get-one, set-fields, set-one, echo-fields, echo-one}
 

@@ -12,7 +12,7 @@ use Rattle.refusals.specs.Check.{pick, Check, check, firstOf}
 use Rattle.refusals.proofs.Tests.{by-cases}
 use Rattle.apdu_format.specs.Component.{octetString}
 use Rattle.apdu_format.specs.Reading.{Value}
-use Rattle.apdu_format.proofs.Tests.{never, both}
+use Rattle.apdu_format.proofs.Tests.{both}
 use Rattle.bits.specs.Strings.{isInside}
 use Rattle.apdu.specs.declared.records.Request.{Request}
 use Rattle.apdu.specs.declared.records.SetRequest.{SetRequest}

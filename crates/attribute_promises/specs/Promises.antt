@@ -26,7 +26,7 @@ use Rattle.apdu.specs.declared.records.GetRequest.{GetRequest}
 use Rattle.bits.specs.Strings.{stringAt}
 use Rattle.directory.specs.declared.Row.{Row}
 use Rattle.directory.specs.Directory.{soundDirectory, knownIn, rowOf}
-use Rattle.attributes.specs.Serving.{leastOutput, Attribute, Tag, Reply, Outcome, refused, refusedAt, silent, replied, Effect, noEntries, sent, valueOf, exact, idsFrom, served, setStatus, getReply, requested, Answered}
+use Rattle.attributes.specs.Serving.{leastOutput, Attribute, Tag, Reply, Outcome, refused, refusedAt, silent, replied, Effect, noEntries, valueOf, exact, idsFrom, served, setStatus, getReply, requested, Answered}
 use Rattle.attributes.specs.declared.answers.RequestAnswer.{RequestAnswer}
 
 -- a reply has at most 512 octets

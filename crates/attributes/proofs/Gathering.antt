@@ -2,33 +2,26 @@
 -- Assumes nothing.
 use Prim.Native.Nat.{ℕ, zero, suc, _+_, _-_, _*_, _≤_, _<_}
 use mathlib.Core.Path.{_≡_, refl, ap, sym, _∙_}
-use mathlib.Core.Bool.{Bool, true, false, _&&_}
+use mathlib.Core.Bool.{Bool, true, false}
 use mathlib.Core.List.{List, [], _∷_, _++_, append-assoc, append-nil}
 use native.Mathlib.Omega.{arith}
 use native.Mathlib.Numerals.{add-one}
-use lib.ListN.{length, getD, take, drop, set, length-set, length-append, length-drop, take-append-drop}
-use lib.Seq.{drop-cons, length-take-le, take-append-le, drop-append-le, take-suc-set, take-at, take-all}
+use lib.ListN.{length, getD, take, drop, set, length-set, length-append, length-drop}
+use lib.Seq.{drop-cons, length-take-le, take-suc-set, take-at, take-all}
 use borrow.Author.Tests.{le-leb}
 use Rattle.refusals.specs.Check.{pick}
-use Rattle.refusals.proofs.Tests.{and-true}
-use Rattle.bits.specs.Bits.{Octets, bits, field, readField}
+use Rattle.bits.specs.Bits.{Octets, field, readField}
 use Rattle.bits.specs.Strings.{isInside, stringAt, copyFits, copyString}
-use Rattle.bits.proofs.Laws.{field-octet, field-lt, below-drop, below-take, drop-bits, take-bits}
-use Rattle.apdu_format.specs.Reading.{Value, fields, string}
-use Rattle.apdu_format.specs.Writing.{inRange}
-use Rattle.apdu.specs.declared.records.GetResponse.{GetResponse}
+use Rattle.bits.proofs.Laws.{field-octet, field-lt, below-drop, below-take}
 use Rattle.apdu.specs.declared.records.Message.the-variants as kind
-use Rattle.apdu.specs.Values.{num, str, headValues, rowValues, rowsValues, getResponseValues, valuesOf}
-use Rattle.apdu.specs.Sound.{partFits, partsFit, closes, rowsSound, getResponseSound, sound, wellFormed}
+use Rattle.apdu.specs.Sound.{sound}
 use Rattle.directory.specs.declared.Row.{Row}
 use Rattle.directory.specs.declared.Found.{Found}
 use Rattle.directory.specs.Directory.{areaOctets, rowSound, soundDirectory, rowOf, finding}
-use Rattle.directory.proofs.Looking.{sound-short, sound-row, inside-area, row-short, in-writable, in-factory}
-use Rattle.attributes.specs.declared.values.Values.{Values}
-use Rattle.attributes.specs.Serving.{Attribute, noEntries, Tag, Reply, idsFrom, rowsOf, valueOf, valuesIn, attributesAt, getReply}
-use Rattle.attributes.specs.Inside.{tagOf, Gathers}
+use Rattle.directory.proofs.Looking.{sound-short, sound-row, inside-area, row-short}
+use Rattle.attributes.specs.Serving.{Attribute, idsFrom, rowsOf, valueOf, valuesIn, attributesAt}
+use Rattle.attributes.specs.Inside.{Gathers}
 use Rattle.attributes.proofs.Faults.{row-is, ids-more, ids-none, ids-all}
-use Rattle.attributes.proofs.Sending.{sent-same}
 
 -- ---- an id
 

@@ -3,11 +3,11 @@
 use Prim.Native.Nat.{ℕ, _≤_, _<_}
 use mathlib.Core.Path.{_≡_, refl, ap, sym, _∙_}
 use mathlib.Core.Bool.{Bool, true, false, not}
-use mathlib.Core.List.{List, [], _∷_}
+use mathlib.Core.List.{List, []}
 use lib.Dec.{eqb, ltb, leb}
 use lib.ListN.{length, take}
 use borrow.Author.Tests.{eq-eqb, ne-eqb, lt-ltb, le-ltb, leb-true, leb-false, not-true, not-false}
-use Rattle.refusals.specs.Check.{pick, check, firstOf}
+use Rattle.refusals.specs.Check.{pick, firstOf}
 use Rattle.refusals.proofs.Tests.{by-cases}
 use Rattle.apdu.specs.declared.records.GetRequest.{GetRequest}
 use Rattle.apdu.specs.declared.records.SetRequest.{SetRequest}
@@ -24,7 +24,7 @@ use Rattle.directory.specs.Gathered.{gathered, listOf}
 use Rattle.directory.proofs.Looking.{gathered-few, gathered-many, unsound}
 use Rattle.attributes.specs.declared.answers.RequestOutcome.the-variants as told
 use Rattle.attributes.specs.declared.answers.RequestAnswer.{RequestAnswer}
-use Rattle.attributes.specs.Serving.{Attribute, Tag, exact, idsFrom, getFaults, getStatus, setFaults, setStatus, setRows, getReply, getRefusal, setReply, echoReply, effect, Effect, sent, tooLong, toldOf, refused, silent, getting, setting, carried, served, byReading, requested, Answered}
+use Rattle.attributes.specs.Serving.{Attribute, Tag, exact, idsFrom, getFaults, getStatus, setFaults, setStatus, setRows, getReply, getRefusal, setReply, echoReply, effect, Effect, sent, tooLong, toldOf, getting, setting, carried, served, byReading, requested, Answered}
 use Rattle.attributes.specs.Inside.{tagOf, Sends, unserved}
 use Rattle.attributes.proofs.Sending.{long-kept}
 

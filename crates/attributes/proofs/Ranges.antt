@@ -1,12 +1,12 @@
 -- What reading tells of a request's numbers: its ids or attributes are few, and the places of ids are small.
 -- Assumes nothing.
-use Prim.Native.Nat.{ℕ, _+_, _-_, _*_, _≤_}
-use mathlib.Core.Path.{_≡_, refl, ap, sym, _∙_}
-use mathlib.Core.Bool.{Bool, true, false, _&&_, _||_}
+use Prim.Native.Nat.{ℕ, _+_, _-_, _≤_}
+use mathlib.Core.Path.{_≡_, ap, sym, _∙_}
+use mathlib.Core.Bool.{Bool, true, false, _||_}
 use mathlib.Core.List.{List, [], _∷_, _++_}
 use native.Mathlib.Omega.{arith}
 use lib.Dec.{eqb, ltb}
-use lib.ListN.{length, take}
+use lib.ListN.{length}
 use borrow.Author.Tests.{ltb-false}
 use Rattle.refusals.specs.Check.{check, firstOf}
 use Rattle.refusals.proofs.Tests.{by-cases}
@@ -15,7 +15,7 @@ use Rattle.bits.proofs.Strings.{inside-le}
 use Rattle.apdu_format.specs.Component.{Component, choice, lead, integer, stringForm, stringLength, stringOctets, idCount, rowCount}
 use Rattle.apdu_format.specs.Table.{layoutOf}
 use Rattle.apdu_format.specs.Rules.{shape, checksOf, present, brings, announced}
-use Rattle.apdu_format.specs.Reading.{Value, fields, string, numbersOf, readMessage}
+use Rattle.apdu_format.specs.Reading.{Value, fields, numbersOf, readMessage}
 use Rattle.apdu_format.specs.Writing.{Pen, bitsOf, fits, isValue, written, inRange}
 use Rattle.apdu_format.proofs.Tests.{both, never}
 use Rattle.apdu_format.proofs.Messages.{in-range}
@@ -24,7 +24,7 @@ use Rattle.apdu.specs.declared.records.GetRequest.{GetRequest}
 use Rattle.apdu.specs.declared.records.SetRequest.{SetRequest}
 use Rattle.apdu.specs.declared.records.Message.{Message}
 use Rattle.apdu.specs.declared.records.Message.the-variants as kind
-use Rattle.apdu.specs.Values.{bitOf, if, num, num-if, str, idList, rowsValues, getRequestValues, setRequestValues, valuesOf}
+use Rattle.apdu.specs.Values.{bitOf, if, num, num-if, str, idList, getRequestValues, setRequestValues, valuesOf}
 use Rattle.apdu.specs.Tidy.{Absent, messageTidy}
 use Rattle.apdu.specs.Sound.{soundIf, getRequestSound, sound}
 use Rattle.apdu_reading.specs.declared.front.Answer.the-variants as answer

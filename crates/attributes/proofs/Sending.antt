@@ -1,27 +1,23 @@
 -- A reply that is sent: what writing answers, and when two replies are the same.
 -- Assumes nothing.
 use Prim.Native.Nat.{ℕ}
-use mathlib.Core.Path.{_≡_, refl, ap, sym, _∙_}
-use mathlib.Core.Bool.{Bool, true, false}
+use mathlib.Core.Path.{_≡_, _∙_}
+use mathlib.Core.Bool.{true}
 use mathlib.Core.List.{List}
 use lib.Dec.{eqb}
 use lib.ListN.{length}
-use Rattle.refusals.specs.Check.{firstOf}
 use Rattle.refusals.proofs.Tests.{by-cases}
 use Rattle.apdu_format.proofs.Tests.{never}
-use Rattle.apdu_format.specs.Reading.{Value}
-use Rattle.apdu_format.specs.Writing.{size, encodedOctets}
 use Rattle.apdu.specs.declared.lists.Entry.{Entry}
 use Rattle.apdu.specs.declared.records.Message.{Message}
 use Rattle.apdu.specs.Values.{valuesOf}
 use Rattle.apdu.specs.Sound.{wellFormed}
 use Rattle.apdu_writing.specs.declared.writing.ApduWritten.{ApduWritten}
 use Rattle.apdu_writing.specs.declared.writing.ApduWritten.the-variants as written
-use Rattle.apdu_writing.specs.Answer.{Answer, answerOf, writeRefusal, answered, writeAnswer, writeOutput}
-use Rattle.attributes.specs.declared.answers.RequestOutcome.{RequestOutcome}
+use Rattle.apdu_writing.specs.Answer.{answerOf, writeRefusal, answered, writeAnswer, writeOutput}
 use Rattle.attributes.specs.declared.answers.RequestOutcome.the-variants as told
 use Rattle.attributes.specs.declared.answers.RequestAnswer.{RequestAnswer}
-use Rattle.attributes.specs.Serving.{Attribute, Reply, noEntries, writes, sent, effect, tooLong, toldOf}
+use Rattle.attributes.specs.Serving.{Attribute, Reply, noEntries, writes, sent, tooLong, toldOf}
 use Rattle.attributes.specs.Inside.{Sends}
 
 module _ (m : Message) (attributes : List Attribute) (lent out : List ℕ) (es : List Entry) (x : ApduWritten) {out' : List ℕ} (none : es ≡ noEntries)

@@ -2,7 +2,7 @@
 -- Assumes nothing.
 use Prim.Native.Nat.{ℕ, zero, suc, _+_, _*_, _≤_}
 use mathlib.Core.Path.{_≡_, refl, ap, ap₂, sym, _∙_}
-use mathlib.Core.Bool.{Bool, true, false, _&&_}
+use mathlib.Core.Bool.{true, false, _&&_}
 use mathlib.Core.List.{List, [], _∷_, _++_}
 use native.Mathlib.Omega.{arith}
 use lib.ListN.{length, take, drop, length-append, length-drop, take-append-drop}
@@ -12,18 +12,16 @@ use Rattle.refusals.proofs.Tests.{and-true}
 use Rattle.bits.specs.Bits.{bits}
 use Rattle.bits.specs.Strings.{isInside}
 use Rattle.bits.proofs.Laws.{drop-bits, take-bits}
-use Rattle.apdu_format.specs.Reading.{Value, fields, string}
-use Rattle.apdu_format.specs.Writing.{inRange}
 use Rattle.apdu.specs.declared.records.GetRequest.{GetRequest}
 use Rattle.apdu.specs.declared.records.GetResponse.{GetResponse}
 use Rattle.apdu.specs.declared.records.Message.the-variants as kind
-use Rattle.apdu.specs.Values.{num, headValues, rowValues, rowsValues, getResponseValues, valuesOf}
+use Rattle.apdu.specs.Values.{headValues, rowValues, rowsValues, getResponseValues, valuesOf}
 use Rattle.apdu.specs.Sound.{partFits, partsFit, closes, rowsSound, getResponseSound, sound, wellFormed}
 use Rattle.directory.specs.declared.Row.{Row}
 use Rattle.directory.specs.Directory.{soundDirectory, rowOf}
 use Rattle.directory.proofs.Looking.{sound-row, inside-area}
 use Rattle.attributes.specs.declared.values.Values.{Values}
-use Rattle.attributes.specs.Serving.{Attribute, noEntries, Reply, sent, idsFrom, rowsOf, valueOf, valuesIn, attributesAt, getReply}
+use Rattle.attributes.specs.Serving.{noEntries, Reply, sent, idsFrom, rowsOf, valueOf, valuesIn, attributesAt, getReply}
 use Rattle.attributes.specs.Inside.{tagOf, Gathers}
 use Rattle.attributes.proofs.Gathering.{length-value}
 use Rattle.attributes.proofs.Sending.{sent-same}

@@ -28,7 +28,7 @@ use Rattle.apdu_reading.specs.Answers.{outcomeOf, Tidy, SoundRecord}
 use Rattle.apdu_writing.specs.Answer as writing
 use Rattle.apdu_writing.specs.Answer.{writeAnswer, writeOutput}
 use Rattle.directory.specs.declared.Row.{Row}
-use Rattle.directory.specs.Directory.{areaOf, knownIn, rowOf, soundDirectory}
+use Rattle.directory.specs.Directory.{knownIn, rowOf, soundDirectory}
 use Rattle.attributes.specs.declared.answers.RequestOutcome.{RequestOutcome}
 use Rattle.attributes.specs.declared.answers.RequestOutcome.the-variants as told
 use Rattle.attributes.specs.declared.answers.RequestAnswer.{RequestAnswer}

@@ -1,15 +1,12 @@
 -- The ways out of reading a line of hex.
 -- Assumes nothing.
 use mathlib.Core.Path.{_≡_, refl, ap, sym, _∙_}
-use mathlib.Core.Bool.{Bool, true, false, _&&_, not}
-use Prim.Native.Nat.{ℕ, _+_, _*_, _/_, _%_, _≤_, _<_}
-use mathlib.Core.List.{List, [], _∷_, _++_}
-use native.Mathlib.Omega.{arith}
-use lib.Dec.{leb, eqb}
+use mathlib.Core.Bool.{Bool, true, false, not}
+use Prim.Native.Nat.{ℕ, _+_, _/_, _%_, _≤_, _<_}
+use mathlib.Core.List.{List, _++_}
 use lib.ListN.{length, drop}
 use lib.Seq.{slice, take-length}
 use borrow.Author.Tests.{le-leb, lt-leb, eq-eqb, ne-eqb, not-true, not-false}
-use Rattle.refusals.specs.Check.{accepted, refused}
 use Rattle.bench_lines.specs.Numerals.{allDigits, octetsOf}
 use Rattle.bench_lines.specs.Hex.{isHex, readHex, hexAnswer, bufferAfterHex}
 use Rattle.bench_lines.specs.declared.HexRead.the-variants as read

@@ -4,7 +4,7 @@ ghost use mathlib.Core.Path.{_≡_};
 ghost use Prim.Native.Nat.{_+_, _≤_};
 ghost use lib.ListN.{length, take};
 ghost use Rattle.directory.specs.Part.{PartOf};
-ghost use Rattle.directory.specs.Directory.{noRow, areaOctets, rowSound, eachSound, sameArea, shareOctet, clashes, allApart, soundDirectory, indexOf, finding, lookupRow, LookedUp, knowing, answerOf, areaOf};
+ghost use Rattle.directory.specs.Directory.{noRow, areaOctets, rowSound, eachSound, sameArea, shareOctet, clashes, allApart, soundDirectory, finding, lookupRow, LookedUp, knowing, answerOf};
 ghost use Rattle.directory.specs.Gathered.{noDirectory, withRow, gathered, listOf};
 
 // 01's attribute row. A start and a length count octets. The two long fields stand first, so that the only gap is behind the last one: a directory is then

@@ -7,7 +7,7 @@ use native.Mathlib.Omega.{arith}
 use lib.Dec.{leb}
 use borrow.Author.Tests.{le-leb, lt-leb, leb-true, leb-false}
 use mathlib.Core.List.{List, [], _∷_}
-use Rattle.refusals.specs.Check.{pick, Check, check, firstOf, refused, accepted, decided}
+use Rattle.refusals.specs.Check.{pick, Check, check, firstOf, accepted, decided}
 
 -- a statement about a choice, from the two cases of its test
 pub by-test {ℓ} : {A : Type ℓ} (P : A → Type 0) (b : Bool) {x y : A} → (b ≡ true → P x) → (b ≡ false → P y) → P (pick b x y)

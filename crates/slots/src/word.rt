@@ -1,7 +1,6 @@
 // The word of busy bits, and the two counts over it.
 ghost use mathlib.Core.Path.{_≡_};
-ghost use Prim.Native.Nat.{_-_, _^_};
-ghost use lib.Count.{ones, trailingZeros};
+ghost use Prim.Native.Nat.{_-_};
 ghost use Rattle.slots.specs.Slots.{wordOf, busyCount, isFull, lowestFree};
 use crate::Slot;
 use crate::Table;

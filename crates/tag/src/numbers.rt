@@ -1,5 +1,4 @@
 // Numbers and octets that a word spells.
-ghost use mathlib.Core.Path.{_≡_};
 ghost use Prim.Native.Nat.{_<_, _≤_};
 
 // One more than the largest number.

@@ -1,8 +1,6 @@
 -- What is packed into an answer is taken out of it again. Assumes nothing.
-use mathlib.Core.Path.{_≡_}
-use Prim.Native.Nat.{ℕ, _<_, _^_}
 use native.Mathlib.Omega.{arith}
-use Rattle.words.specs.Answer.{answerNumber, numberIn, kindIn, firstIn, secondIn, TakenOut, UnpackingAnswer}
+use Rattle.words.specs.Answer.{answerNumber, numberIn, kindIn, firstIn, secondIn, UnpackingAnswer}
 
 pub unpacking-answer : UnpackingAnswer
 unfolding UnpackingAnswer answerNumber numberIn kindIn firstIn secondIn

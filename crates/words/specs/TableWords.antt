@@ -1,7 +1,7 @@
 -- The table of slots as 41 words that a caller lends: the busy word, then LID, number, next counter, octets held and tick of each slot, in order. Words of
 -- another length are a table that is not sound (a busy word of all ones, which no sound table has), so that each call refuses it with 2 in 01's order.
 -- Assumes nothing.
-use Prim.Native.Nat.{ℕ, _+_, _-_, _^_, _≤_}
+use Prim.Native.Nat.{ℕ, _+_, _-_, _^_}
 use mathlib.Core.Path.{_≡_}
 use mathlib.Core.Bool.{false}
 use mathlib.Core.List.{List, [], _∷_, _++_}

@@ -5,10 +5,10 @@ use Prim.Native.Nat.{_≤_, _-_, _+_, _*_}
 use mathlib.Core.Path.{_≡_, sym, _∙_}
 use mathlib.Core.Logic.{⊎-elim}
 use lib.ListN.{length, take, drop}
-use borrow.Author.Needs.{needs}
-use Rattle.apdu_writing.proofs.RowLists.{long}
+use Rattle.apdu.specs.Values.{emptyEntry}
+use Rattle.apdu.proofs.Tables.{long, part-length, part-place}
 use Rattle.apdu_same.specs.Walk.{sameEntries}
-use Rattle.apdu_same.proofs.EntryLists.{part-entries, part-entry, EntriesLeft, entries-all, entries-none, entry-other, entry-passed, rows-same, rows-other}
+use Rattle.apdu_same.proofs.EntryLists.{EntriesLeft, entries-all, entries-none, entry-other, entry-passed, rows-same, rows-other}
 use Rattle.apdu_same.proofs.entries.applications.Statement.{statement}
 use Rattle.apdu_same.proofs.entries.applications.Tie as tie
 
@@ -30,7 +30,7 @@ loop-holds c =
     let t : length (a .args .t2) ≡ 32 = search (long, a .good .1 .0 .1) in
     let u : length (a .args .t6) ≡ 32 = search (long, a .good .1 .1 .1 .1 .1 .0 .1) in
     let k = c .clamped .ensures in
-    (omega arith, part-entries _ (a .args .from) (a .args .n) t (k .0), part-entries _ (a .args .from) (a .args .n) u (k .0), omega arith, omega arith, omega arith, entries-all _ _ _ _ _ _ _ _)
+    (omega arith, part-length _ (a .args .from) (a .args .n) t (k .0), part-length _ (a .args .from) (a .args .n) u (k .0), omega arith, omega arith, omega arith, entries-all _ _ _ _ _ _ _ _)
 
 add-e : tie.Need-add-e Inv-loop μ-loop
 add-e c = omega arith
@@ -58,7 +58,7 @@ returns c =
     let l = c .before .before .before .before .before .loop in
     let h = c .before .before .before .before .loop-test .taken in
     let a = c .before .before .before .before .before .before .before .before .before .args in
-    sym (l .inv .6 ∙ entry-other _ _ _ _ _ _ (l .i) (l .used) (l .gone) (part-entry (a .t2) (a .from) (a .n) (l .i) (l .inv .1) h) (part-entry (a .t6) (a .from) (a .n) (l .i) (l .inv .2) h) (omega arith) (omega arith) (c .before .entry .ensures) (c .if1 .taken))
+    sym (l .inv .6 ∙ entry-other _ _ _ _ _ _ (l .i) (l .used) (l .gone) (part-place emptyEntry (a .t2) (a .from) (a .n) (l .i) (l .inv .1) h) (part-place emptyEntry (a .t6) (a .from) (a .n) (l .i) (l .inv .2) h) (omega arith) (omega arith) (c .before .entry .ensures) (c .if1 .taken))
 
 entry-rows-requires : tie.Need-entry-rows-requires Inv-loop μ-loop
 entry-rows-requires c κs = tt
@@ -77,7 +77,7 @@ returns-2 c =
     let l = c .before .before .before .before .before .before .before .before .before .before .before .loop in
     let h = c .before .before .before .before .before .before .before .before .before .before .loop-test .taken in
     let a = c .before .before .before .before .before .before .before .before .before .before .before .before .before .before .before .args in
-    sym (l .inv .6 ∙ rows-other _ _ _ _ _ _ (l .i) (l .used) (l .gone) (part-entry (a .t2) (a .from) (a .n) (l .i) (l .inv .1) h) (part-entry (a .t6) (a .from) (a .n) (l .i) (l .inv .2) h) (omega arith) (omega arith) (c .before .before .before .before .before .before .before .entry .ensures) (c .before .before .before .before .before .before .if1 .left) (c .before .before .before .before .before .entry-rows .ensures .0) (c .before .before .before .before .entry-rows2 .ensures .0) (c .before .before .before .lists-rows .ensures) (c .before .before .if2 .taken) (c .before .rows .ensures) (c .if3 .taken))
+    sym (l .inv .6 ∙ rows-other _ _ _ _ _ _ (l .i) (l .used) (l .gone) (part-place emptyEntry (a .t2) (a .from) (a .n) (l .i) (l .inv .1) h) (part-place emptyEntry (a .t6) (a .from) (a .n) (l .i) (l .inv .2) h) (omega arith) (omega arith) (c .before .before .before .before .before .before .before .entry .ensures) (c .before .before .before .before .before .before .if1 .left) (c .before .before .before .before .before .entry-rows .ensures .0) (c .before .before .before .before .entry-rows2 .ensures .0) (c .before .before .before .lists-rows .ensures) (c .before .before .if2 .taken) (c .before .rows .ensures) (c .if3 .taken))
 
 add-used : tie.Need-add-used Inv-loop μ-loop
 add-used c = omega (arith, c .before .before .before .entry-rows .ensures .1, c .before .before .before .before .before .before .before .before .before .loop .inv, c .before .before .before .before .before .before .before .before .before .before .before .before .before .pre)
@@ -106,8 +106,8 @@ loop-again c =
       omega (arith, theirs .1),
       l .inv .6
           ∙ ⊎-elim
-          (λ x. rows-same _ _ _ _ _ _ (l .i) (l .used) (l .gone) (part-entry (a .t2) (a .from) (a .n) (l .i) (l .inv .1) h) (part-entry (a .t6) (a .from) (a .n) (l .i) (l .inv .2) h) (omega arith) (omega arith) (c .before .before .before .before .before .entry .ensures) (c .before .before .before .before .if1 .left) (own .0) (theirs .0) (c .before .lists-rows .ensures) (x .0 .taken) (x .1 .ensures) (x .2 .left))
-          (λ x. entry-passed _ _ _ _ _ _ (l .i) (l .used) (l .gone) (part-entry (a .t2) (a .from) (a .n) (l .i) (l .inv .1) h) (part-entry (a .t6) (a .from) (a .n) (l .i) (l .inv .2) h) (omega arith) (omega arith) (c .before .before .before .before .before .entry .ensures) (c .before .before .before .before .if1 .left) (own .0) (theirs .0) (c .before .lists-rows .ensures) (x .left)) (c .if2 .came),
+          (λ x. rows-same _ _ _ _ _ _ (l .i) (l .used) (l .gone) (part-place emptyEntry (a .t2) (a .from) (a .n) (l .i) (l .inv .1) h) (part-place emptyEntry (a .t6) (a .from) (a .n) (l .i) (l .inv .2) h) (omega arith) (omega arith) (c .before .before .before .before .before .entry .ensures) (c .before .before .before .before .if1 .left) (own .0) (theirs .0) (c .before .lists-rows .ensures) (x .0 .taken) (x .1 .ensures) (x .2 .left))
+          (λ x. entry-passed _ _ _ _ _ _ (l .i) (l .used) (l .gone) (part-place emptyEntry (a .t2) (a .from) (a .n) (l .i) (l .inv .1) h) (part-place emptyEntry (a .t6) (a .from) (a .n) (l .i) (l .inv .2) h) (omega arith) (omega arith) (c .before .before .before .before .before .entry .ensures) (c .before .before .before .before .if1 .left) (own .0) (theirs .0) (c .before .lists-rows .ensures) (x .left)) (c .if2 .came),
     )
 
 returns-3 : tie.Need-returns-3 Inv-loop μ-loop

@@ -4,9 +4,8 @@ use native.Mathlib.Omega.{arith}
 use Prim.Native.Nat.{_≤_, _-_, _*_}
 use mathlib.Core.Path.{_≡_, refl}
 use lib.ListN.{length, take}
-use borrow.Author.Needs.{needs}
 use Rattle.apdu.specs.Values.{rowsOf}
-use Rattle.apdu_writing.proofs.RowLists.{long}
+use Rattle.apdu.proofs.Tables.{long}
 use Rattle.apdu_same.proofs.EntryLists.{rows-none-yet, rows-more, rows-whole}
 use Rattle.apdu_same.proofs.entries.rows_of.Statement.{statement}
 use Rattle.apdu_same.proofs.entries.rows_of.Tie as tie

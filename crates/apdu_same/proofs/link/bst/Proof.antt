@@ -3,7 +3,7 @@
 use mathlib.Core.Path.{_≡_, refl}
 use lib.ListN.{length}
 use Rattle.apdu.specs.Values.{bstValues}
-use Rattle.apdu_writing.proofs.RowLists.{long}
+use Rattle.apdu.proofs.Tables.{long}
 use Rattle.apdu_same.proofs.Agreement.{lead-more, lead-last, other}
 use Rattle.apdu_same.proofs.Links.{bst-same}
 use borrow.Author.Needs.{needs}

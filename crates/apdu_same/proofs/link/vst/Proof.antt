@@ -2,7 +2,7 @@
 -- Assumes nothing.
 use mathlib.Core.Path.{_≡_}
 use lib.ListN.{length}
-use Rattle.apdu_writing.proofs.RowLists.{long}
+use Rattle.apdu.proofs.Tables.{long}
 use Rattle.apdu_same.proofs.Links.{vst-same}
 use borrow.Author.Needs.{needs}
 use Rattle.apdu_same.proofs.link.vst.Statement.{statement}

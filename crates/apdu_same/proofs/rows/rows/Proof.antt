@@ -4,7 +4,8 @@ use native.Mathlib.Omega.{arith}
 use Prim.Native.Nat.{_≤_, _-_}
 use mathlib.Core.Path.{_≡_, sym, _∙_}
 use lib.ListN.{length, take, drop}
-use Rattle.apdu_writing.proofs.RowLists.{long, part-length, part-row}
+use Rattle.apdu.specs.Values.{emptyRow}
+use Rattle.apdu.proofs.Tables.{long, part-length, part-place}
 use Rattle.apdu_same.specs.Walk.{sameRows}
 use Rattle.apdu_same.proofs.RowLists.{rows-lengths, RowsLeft, rows-all, row-same, row-other, rows-none}
 use Rattle.apdu_same.proofs.rows.rows.Statement.{statement}
@@ -62,7 +63,7 @@ returns-2 c =
     let l = c .before .before .before .before .before .loop in
     let h = c .before .before .before .before .loop-test .taken in
     let a = c .before .before .before .before .before .before .before .before .before .before .before .args in
-    sym (l .inv .3 ∙ row-other _ _ _ _ (l .i) (part-row (a .t2) (a .first) (a .count) (l .i) (l .inv .1) h) (part-row (a .t6) (a .from) (a .size) (l .i) (l .inv .2) h) (omega arith) (omega arith) (c .before .row .ensures) (c .if2 .taken))
+    sym (l .inv .3 ∙ row-other _ _ _ _ (l .i) (part-place emptyRow (a .t2) (a .first) (a .count) (l .i) (l .inv .1) h) (part-place emptyRow (a .t6) (a .from) (a .size) (l .i) (l .inv .2) h) (omega arith) (omega arith) (c .before .row .ensures) (c .if2 .taken))
 
 add-i : tie.Need-add-i Inv-loop μ-loop
 add-i c = omega arith
@@ -75,7 +76,7 @@ loop-again c =
     let l = c .before .before .before .before .before .loop in
     let h = c .before .before .before .before .loop-test .taken in
     let a = c .before .before .before .before .before .before .before .before .before .before .before .args in
-    (omega arith, l .inv .1, l .inv .2, l .inv .3 ∙ row-same _ _ _ _ (l .i) (part-row (a .t2) (a .first) (a .count) (l .i) (l .inv .1) h) (part-row (a .t6) (a .from) (a .size) (l .i) (l .inv .2) h) (omega arith) (omega arith) (c .before .row .ensures) (c .if2 .left))
+    (omega arith, l .inv .1, l .inv .2, l .inv .3 ∙ row-same _ _ _ _ (l .i) (part-place emptyRow (a .t2) (a .first) (a .count) (l .i) (l .inv .1) h) (part-place emptyRow (a .t6) (a .from) (a .size) (l .i) (l .inv .2) h) (omega arith) (omega arith) (c .before .row .ensures) (c .if2 .left))
 
 returns-3 : tie.Need-returns-3 Inv-loop μ-loop
 returns-3 c = let l = c .before .loop in sym (l .inv .3 ∙ rows-none _ _ _ _ (l .i) (omega arith) (omega arith))

@@ -2,7 +2,6 @@
 -- Assumes nothing.
 use mathlib.Core.Path.{refl}
 use mathlib.Core.Path.{_∙_}
-use Rattle.apdu_text.specs.Lines.{refusalText}
 use Rattle.apdu_text.proofs.Flat.{refusal-zero, refusal-more}
 use Rattle.apdu_text.proofs.append.put_refusal.Statement.{statement}
 use Rattle.apdu_text.proofs.append.put_refusal.Tie as tie

@@ -1,9 +1,9 @@
 -- The loop leaves the lists up to k.
 -- Assumes nothing.
 use native.Mathlib.Omega.{arith}
-use Prim.Native.Nat.{_≤_, _-_, _+_, _*_}
-use mathlib.Core.Path.{_≡_, refl, sym, _∙_}
-use lib.ListN.{length, drop}
+use Prim.Native.Nat.{_≤_}
+use mathlib.Core.Path.{_≡_, refl, _∙_}
+use lib.ListN.{length}
 use Rattle.apdu_text.specs.Parts.{seam}
 use Rattle.apdu_text.specs.Ink.{stackOf}
 use Rattle.apdu_text.proofs.Inking.{Leaves, leaves-all}

@@ -1,16 +1,15 @@
 -- The loop leaves the entries from i on and the bracket.
 -- Assumes nothing.
 use native.Mathlib.Omega.{arith}
-use borrow.Author.Needs.{needs}
 use denote.Ref.{now}
 use Prim.Native.Nat.{_≤_, _-_, _+_, _*_}
-use mathlib.Core.Path.{_≡_, refl, sym, _∙_}
+use mathlib.Core.Path.{_≡_, refl, _∙_}
 use mathlib.Core.List.{[], _∷_, _++_}
 use lib.ListN.{length, take, drop}
 use Rattle.apdu.specs.Values.{rowsOf}
 use Rattle.apdu_text.specs.Parts.{entriesText}
 use Rattle.apdu_text.proofs.Inking.{Leaves, leaves-all}
-use Rattle.apdu_text.proofs.Flat.{long, part-length}
+use Rattle.apdu.proofs.Tables.{long, part-length}
 use Rattle.apdu_text.proofs.Applications.{used-more, used-all, entries-more, entries-last, entries-end, entries-inks}
 use Rattle.apdu_text.proofs.entries.entries.Statement.{statement}
 use Rattle.apdu_text.proofs.entries.entries.Tie as tie

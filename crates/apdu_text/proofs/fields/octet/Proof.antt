@@ -3,7 +3,6 @@
 use native.Mathlib.Omega.{arith}
 use borrow.Author.Needs.{needs}
 use Prim.Native.Nat.{_+_, _*_}
-use mathlib.Core.Path.{_∙_}
 use denote.Ref.{now}
 use Rattle.bits.specs.Bits.{readField}
 use Rattle.bits.proofs.Laws.{field-lt}

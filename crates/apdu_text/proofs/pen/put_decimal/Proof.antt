@@ -1,11 +1,11 @@
 -- The loop leaves the digits in front of those that are set.
 -- Assumes nothing.
 use native.Mathlib.Omega.{arith}
-use Prim.Native.Nat.{_≤_, _-_, _+_, _*_, _/_}
-use mathlib.Core.Path.{_≡_, refl, sym, _∙_}
+use Prim.Native.Nat.{_≤_, _-_, _+_, _/_}
+use mathlib.Core.Path.{_≡_, refl, _∙_}
 use lib.ListN.{length, set, length-set, drop}
 use Rattle.bench_lines.specs.Numerals.{width, decimalBefore}
-use Rattle.bench_lines.proofs.Decimal.{width-one, width-more, width-positive, width-u64}
+use Rattle.bench_lines.proofs.Decimal.{width-more, width-positive, width-u64}
 use Rattle.apdu_text.specs.Parts.{decimal}
 use Rattle.apdu_text.proofs.Figures.{digits-more, decimal-inks}
 use Rattle.apdu_text.proofs.pen.put_decimal.Statement.{statement}

@@ -1,8 +1,8 @@
 -- The loop leaves the octets from k on.
 -- Assumes nothing.
 use native.Mathlib.Omega.{arith}
-use Prim.Native.Nat.{_≤_, _-_, _+_, _*_}
-use mathlib.Core.Path.{_≡_, refl, sym, _∙_}
+use Prim.Native.Nat.{_≤_, _-_}
+use mathlib.Core.Path.{_≡_, refl, _∙_}
 use lib.ListN.{length, drop}
 use Rattle.bench_lines.specs.Line.{hexText}
 use Rattle.apdu_text.proofs.Inking.{Leaves, leaves-all}

@@ -1,10 +1,9 @@
 -- The loop leaves the characters from k on.
 -- Assumes nothing.
 use native.Mathlib.Omega.{arith}
-use Prim.Native.Nat.{_≤_, _-_, _+_, _*_}
-use mathlib.Core.Path.{_≡_, refl, sym, _∙_}
+use Prim.Native.Nat.{_≤_, _-_}
+use mathlib.Core.Path.{_≡_, refl, _∙_}
 use lib.ListN.{length, drop}
-use Rattle.apdu_text.specs.Ink.{Inks}
 use Rattle.apdu_text.proofs.Inking.{Leaves, leaves-all}
 use Rattle.apdu_text.proofs.Figures.{word-more, word-end}
 use Rattle.apdu_text.proofs.pen.put_word.Statement.{statement}

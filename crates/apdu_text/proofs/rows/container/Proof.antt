@@ -1,8 +1,6 @@
 -- The container's front, then its rows.
 -- Assumes nothing.
 use mathlib.Core.Path.{_∙_}
-use mathlib.Core.Path.{ap}
-use mathlib.Core.List.{_++_}
 use Rattle.apdu_text.specs.Parts.{containerText}
 use Rattle.apdu_text.proofs.Inking.{inks-then}
 use Rattle.apdu_text.proofs.Flat.{rows-announced}

@@ -2,14 +2,15 @@
 -- Assumes nothing.
 use native.Mathlib.Omega.{arith}
 use denote.Ref.{now}
-use Prim.Native.Nat.{_≤_, _-_, _+_, _*_}
-use mathlib.Core.Path.{_≡_, refl, sym, _∙_}
+use Prim.Native.Nat.{_≤_, _-_, _+_}
+use mathlib.Core.Path.{_≡_, refl, _∙_}
 use mathlib.Core.List.{[]}
 use lib.ListN.{length, length-set, take, drop}
 use Rattle.apdu_text.specs.Parts.{opened, rowsText}
 use Rattle.apdu_text.specs.Ink.{stackOf}
 use Rattle.apdu_text.proofs.Inking.{Leaves}
-use Rattle.apdu_text.proofs.Flat.{long, part-length, rows-start, rows-none, rows-closed, rows-end, rows-closing, rows-opening, set-count, set-fits}
+use Rattle.apdu.proofs.Tables.{long, part-length}
+use Rattle.apdu_text.proofs.Flat.{rows-start, rows-none, rows-closed, rows-end, rows-closing, rows-opening, set-count, set-fits}
 use Rattle.apdu_text.proofs.rows.rows.Statement.{statement}
 use Rattle.apdu_text.proofs.rows.rows.Tie as tie
 

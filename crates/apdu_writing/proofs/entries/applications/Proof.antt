@@ -5,9 +5,8 @@ use Prim.Native.Nat.{_≤_, _-_, _+_, _*_}
 use mathlib.Core.Path.{_≡_, refl, _∙_}
 use lib.ListN.{length, take, drop}
 use borrow.Author.Tests.{not-false}
-use Rattle.apdu_writing.proofs.RowLists.{long}
+use Rattle.apdu.proofs.Tables.{long}
 use Rattle.apdu_writing.proofs.EntryLists.{Turns, turns-none, turns-more, turns-all, turns-stopped}
-use borrow.Author.Needs.{needs}
 use Rattle.apdu_writing.proofs.entries.applications.Statement.{statement}
 use Rattle.apdu_writing.proofs.entries.applications.Tie as tie
 

@@ -5,7 +5,9 @@ use Prim.Native.Nat.{_≤_, _-_}
 use mathlib.Core.Path.{_≡_, refl, sym, _∙_}
 use lib.ListN.{length, take, drop}
 use borrow.Author.Tests.{eqb-true, eqb-false}
-use Rattle.apdu_writing.proofs.RowLists.{Run, run-none, run-more, run-over, run-short, run-done, part-length, part-in, part-end, part-row, is-due, long}
+use Rattle.apdu_writing.proofs.RowLists.{Run, run-none, run-more, run-over, run-short, run-done, part-in, part-end, is-due}
+use Rattle.apdu.specs.Values.{emptyRow}
+use Rattle.apdu.proofs.Tables.{long, part-length, part-place}
 use Rattle.apdu_writing.proofs.rows.rows.Statement.{statement}
 use Rattle.apdu_writing.proofs.rows.rows.Tie as tie
 
@@ -52,7 +54,7 @@ loop-less : tie.Need-loop-less Inv-loop μ-loop
 loop-less c = omega arith
 
 loop-again : tie.Need-loop-again Inv-loop μ-loop
-loop-again c = let a = c .before .before .before .before .before .before .before .before .before .before .before .before .before .before .args in let t : length (a .t2) ≡ 32 = search (long, c .before .before .before .before .before .before .before .before .before .before .before .before .before .before .good .1 .0 .1) in (omega arith, c .before .before .before .before .next-row .kept .1 .1 .1 .0 ∙ c .before .before .before .before .before .before .before .before .before .before .loop .inv .1, run-more _ _ (c .before .before .before .before .before .before .before .before .before .before .loop .inv .2) (part-row (a .t2) (a .first) (a .count) _ (part-length (a .t2) (a .first) (a .count) t (c .before .before .before .before .before .before .before .before .before .before .before .clamped .ensures .0)) (c .before .before .before .before .before .before .before .before .before .loop-test .taken)) (part-in _ _ _ t (c .before .before .before .before .before .before .before .before .before .before .before .clamped .ensures .0) (c .before .before .before .before .before .before .before .before .before .loop-test .taken)) (eqb-false _ _ (sym (c .before .before .before .before .before .before .before .before .finished .ensures) ∙ c .before .before .before .before .before .before .before .if1 .left)) (c .before .before .before .before .next-row .ensures))
+loop-again c = let a = c .before .before .before .before .before .before .before .before .before .before .before .before .before .before .args in let t : length (a .t2) ≡ 32 = search (long, c .before .before .before .before .before .before .before .before .before .before .before .before .before .before .good .1 .0 .1) in (omega arith, c .before .before .before .before .next-row .kept .1 .1 .1 .0 ∙ c .before .before .before .before .before .before .before .before .before .before .loop .inv .1, run-more _ _ (c .before .before .before .before .before .before .before .before .before .before .loop .inv .2) (part-place emptyRow (a .t2) (a .first) (a .count) _ (part-length (a .t2) (a .first) (a .count) t (c .before .before .before .before .before .before .before .before .before .before .before .clamped .ensures .0)) (c .before .before .before .before .before .before .before .before .before .loop-test .taken)) (part-in _ _ _ t (c .before .before .before .before .before .before .before .before .before .before .before .clamped .ensures .0) (c .before .before .before .before .before .before .before .before .before .loop-test .taken)) (eqb-false _ _ (sym (c .before .before .before .before .before .before .before .before .finished .ensures) ∙ c .before .before .before .before .before .before .before .if1 .left)) (c .before .before .before .before .next-row .ensures))
 
 finished-requires-2 : tie.Need-finished-requires-2 Inv-loop μ-loop
 finished-requires-2 c κs = tt

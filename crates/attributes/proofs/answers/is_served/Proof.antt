@@ -1,5 +1,4 @@
 -- `attributes::answers::is_served` meets its contract, kind by kind. Assumes nothing.
-use mathlib.Core.Path.{_∙_, sym}
 use Rattle.attributes.specs.Serving.{served}
 use borrow.Author.Needs.{needs}
 use Rattle.attributes.proofs.answers.is_served.Statement.{statement}

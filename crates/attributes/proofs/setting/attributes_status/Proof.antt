@@ -5,7 +5,7 @@ use mathlib.Core.Path.{_≡_, refl, sym, _∙_}
 use lib.ListN.{length, take}
 use Rattle.refusals.specs.Check.{firstOf}
 use Rattle.directory.specs.Gathered.{listOf}
-use Rattle.apdu_writing.proofs.RowLists.{long}
+use Rattle.apdu.proofs.Tables.{long}
 use Rattle.attributes.specs.Serving.{setFaults}
 use Rattle.attributes.proofs.Faults.{setsLeft, sets-fault, sets-pass, sets-end}
 use Rattle.attributes.proofs.setting.attributes_status.Statement.{statement}

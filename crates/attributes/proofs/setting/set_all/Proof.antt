@@ -1,5 +1,4 @@
 -- `attributes::setting::set_all` meets its contract: all rows, or none. Assumes nothing.
-use mathlib.Core.Path.{_∙_}
 use borrow.Author.Tests.{eq-eqb, ne-eqb}
 use borrow.Author.Needs.{needs}
 use Rattle.attributes.proofs.setting.set_all.Statement.{statement}

@@ -1,8 +1,5 @@
 -- `attributes::setting::set_row` meets its contract: the string is copied to its row's part. Assumes nothing.
-use mathlib.Core.Path.{ap, _∙_}
-use Prim.Native.Nat.{ℕ}
 use borrow.Author.Needs.{needs}
-use Rattle.directory.specs.declared.Row.{Row}
 use Rattle.attributes.specs.Serving.{setRow}
 use Rattle.attributes.proofs.Faults.{row-is}
 use Rattle.attributes.proofs.setting.set_row.Statement.{statement}

@@ -4,7 +4,7 @@ use Prim.Native.Nat.{_≤_, _-_, _+_}
 use mathlib.Core.Path.{_≡_, refl, ap, sym, _∙_}
 use lib.ListN.{length, take}
 use Rattle.directory.specs.Gathered.{listOf}
-use Rattle.apdu_writing.proofs.RowLists.{long}
+use Rattle.apdu.proofs.Tables.{long}
 use Rattle.attributes.specs.Serving.{setRows}
 use Rattle.attributes.proofs.Faults.{from, rows-more, rows-end}
 use Rattle.attributes.proofs.setting.set_rows.Statement.{statement}

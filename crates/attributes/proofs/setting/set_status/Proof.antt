@@ -1,5 +1,4 @@
 -- `attributes::setting::set_status` meets its contract: the eid, then the attributes. Assumes nothing.
-use native.Mathlib.Omega.{arith}
 use Rattle.attributes.proofs.Outcomes.{set-eid, set-each}
 use borrow.Author.Needs.{needs}
 use Rattle.attributes.proofs.setting.set_status.Statement.{statement}

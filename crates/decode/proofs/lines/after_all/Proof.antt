@@ -1,7 +1,6 @@
 -- The turns left are fewer with each.
 -- Assumes nothing.
 use native.Mathlib.Omega.{arith}
-use Prim.Native.Nat.{_≤_, _-_}
 use mathlib.Core.Path.{_≡_, refl}
 use lib.ListN.{length}
 use Rattle.decode.proofs.lines.after_all.Statement.{statement}

@@ -1,6 +1,5 @@
 -- An index past the eight reads as the default, which is the free slot.
 use mathlib.Core.Path.{_≡_, sym, _∙_}
-use Prim.Native.Nat.{_-_}
 use native.Mathlib.Omega.{arith}
 use lib.ListN.{length, List·getD-eq-default}
 use Rattle.slots.specs.Slots.{free}

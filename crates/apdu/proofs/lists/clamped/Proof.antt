@@ -2,9 +2,9 @@
 -- Assumes nothing.
 use native.Mathlib.Omega.{arith}
 use borrow.Author.Needs.{needs}
-use Rattle.apdu_text.proofs.Flat.{lesser-none, lesser-most, lesser-all}
-use Rattle.apdu_text.proofs.rows.clamped.Statement.{statement}
-use Rattle.apdu_text.proofs.rows.clamped.Tie as tie
+use Rattle.apdu.proofs.Tables.{lesser-none, lesser-most, lesser-all}
+use Rattle.apdu.proofs.lists.clamped.Statement.{statement}
+use Rattle.apdu.proofs.lists.clamped.Tie as tie
 
 returns : tie.Need-returns
 returns c = (lesser-none _ _ (omega arith), omega arith)
