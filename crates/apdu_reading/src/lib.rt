@@ -32,7 +32,8 @@ use rows::wants;
 use services::opening;
 
 // The message that `s` is: 21 for more than 512 octets, then the faults of its components, and 14 for octets left behind it. The rows of a service's
-// message are held here, where the answer is built, so that they are copied once.
+// message are held here, where the answer is built, so that they are copied once; and they are
+// cleared before the message is read, so that what was stored is there when it is copied.
 pub fn read(s: &[u8]) -> Reading
     ensures { λ r. ⌜ (outcomeOf (now (s .entry)) r ≡ readMessage (now (s .entry))) × Tidy r × SoundRecord (now (s .entry)) r ⌝ }
 {
@@ -46,6 +47,9 @@ pub fn read(s: &[u8]) -> Reading
     if 8 <= c.value {
         return link(s, c);
     }
+    let entries = no_entries();
+    let rows = no_rows();
+    let mut lists = Lists { entries, rows };
     let o = opening(s, c);
     let last = o.last;
     let message = o.message;
@@ -58,9 +62,6 @@ pub fn read(s: &[u8]) -> Reading
         d5: 0,
     };
     let mut used: u64 = 0;
-    let entries = no_entries();
-    let rows = no_rows();
-    let mut lists = Lists { entries, rows };
     while wants(cursor, used) {
         let t = next_row(s, cursor, due);
         let row = t.row;

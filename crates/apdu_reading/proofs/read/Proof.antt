@@ -13,10 +13,10 @@ use Rattle.apdu_reading.proofs.read.Statement.{statement}
 use Rattle.apdu_reading.proofs.read.Tie as tie
 
 abbrev Inv-loop : tie.InvT-loop
-Inv-loop s last message cursor₀ due₀ used₀ lists₀ cursor due used lists = Held s cursor₀ due₀ used₀ (lists₀ .rows) cursor due used (lists .rows) × (used ≤ 32) × (lists .entries ≡ lists₀ .entries)
+Inv-loop s lists₀ last message cursor₀ due₀ used₀ lists cursor due used = Held s cursor₀ due₀ used₀ (lists₀ .rows) cursor due used (lists .rows) × (used ≤ 32) × (lists .entries ≡ lists₀ .entries)
 
 abbrev μ-loop : tie.MeasureT-loop
-μ-loop s last message cursor₀ due₀ used₀ lists₀ cursor due used lists = pick (eqb (cursor .fault) 0) (33 - used) 0
+μ-loop s lists₀ last message cursor₀ due₀ used₀ lists cursor due used = pick (eqb (cursor .fault) 0) (33 - used) 0
 
 refused-requires : tie.Need-refused-requires Inv-loop μ-loop
 refused-requires c κs = tt
@@ -40,7 +40,7 @@ returns-3 : tie.Need-returns-3 Inv-loop μ-loop
 returns-3 c = let a = c .link .ensures in (a .outcome, a .tidy, a .sound)
 
 opening-requires : tie.Need-opening-requires Inv-loop μ-loop
-opening-requires c κs = (c .before .before .before .before .before .if1 .left, record { is = c .before .before .before .before .chosen .ensures; clean = c .before .before .if2 .left }, c .if3 .left)
+opening-requires c κs = (c .before .before .before .before .before .before .before .if1 .left, record { is = c .before .before .before .before .before .before .chosen .ensures; clean = c .before .before .before .before .if2 .left }, c .before .before .if3 .left)
 
 no-entries-requires : tie.Need-no-entries-requires Inv-loop μ-loop
 no-entries-requires c κs = tt
@@ -49,7 +49,7 @@ no-rows-requires : tie.Need-no-rows-requires Inv-loop μ-loop
 no-rows-requires c κs = tt
 
 loop-holds : tie.Need-loop-holds Inv-loop μ-loop
-loop-holds c = (held-none _ _ _ (opens-ready (c .before .before .before .opening .ensures) (c .no-rows .ensures)), omega arith, refl)
+loop-holds c = (held-none _ _ _ (opens-ready (c .before .opening .ensures) (c .before .before .no-rows .ensures)), omega arith, refl)
 
 wants-requires : tie.Need-wants-requires Inv-loop μ-loop
 wants-requires c κs = tt
@@ -88,13 +88,13 @@ refused-requires-3 : tie.Need-refused-requires-3 Inv-loop μ-loop
 refused-requires-3 c κs = tt
 
 returns-4 : tie.Need-returns-4 Inv-loop μ-loop
-returns-4 c = let a = message-refused _ (c .before .before .before .before .before .before .before .before .before .before .before .before .before .before .before .before .before .if1 .left) _ (read-rows (c .before .before .before .before .before .before .before .before .before .before .before .opening .ensures) (c .before .before .before .before .before .before .before .before .no-rows .ensures) (done _ _ _ _ _ (c .before .before .before .before .before .before .before .loop .inv .0) (c .before .before .before .before .before .before .wants .ensures) (c .before .before .before .before .before .before .before .loop .inv .1) (c .before .before .before .before .before .if4 .left)) (c .before .before .before .before .integer-if .ensures)) (c .before .before .before .ended .ensures) (c .before .if6 .taken) (c .refused3 .ensures) in (a .outcome, a .tidy, a .sound)
+returns-4 c = let a = message-refused _ (c .before .before .before .before .before .before .before .before .before .before .before .before .before .before .before .before .before .if1 .left) _ (read-rows (c .before .before .before .before .before .before .before .before .before .opening .ensures) (c .before .before .before .before .before .before .before .before .before .before .no-rows .ensures) (done _ _ _ _ _ (c .before .before .before .before .before .before .before .loop .inv .0) (c .before .before .before .before .before .before .wants .ensures) (c .before .before .before .before .before .before .before .loop .inv .1) (c .before .before .before .before .before .if4 .left)) (c .before .before .before .before .integer-if .ensures)) (c .before .before .before .ended .ensures) (c .before .if6 .taken) (c .refused3 .ensures) in (a .outcome, a .tidy, a .sound)
 
 closed-requires : tie.Need-closed-requires Inv-loop μ-loop
 closed-requires c κs = tt
 
 returns-5 : tie.Need-returns-5 Inv-loop μ-loop
-returns-5 c = let a = message-answered _ (c .before .before .before .before .before .before .before .before .before .before .before .before .before .before .before .before .before .if1 .left) _ (read-rows (c .before .before .before .before .before .before .before .before .before .before .before .opening .ensures) (c .before .before .before .before .before .before .before .before .no-rows .ensures) (done _ _ _ _ _ (c .before .before .before .before .before .before .before .loop .inv .0) (c .before .before .before .before .before .before .wants .ensures) (c .before .before .before .before .before .before .before .loop .inv .1) (c .before .before .before .before .before .if4 .left)) (c .before .before .before .before .integer-if .ensures)) (c .before .before .before .ended .ensures) (c .before .if6 .left) (c .closed .ensures) (c .before .before .before .before .before .before .before .loop .inv .2 ∙ c .before .before .before .before .before .before .before .before .before .no-entries .ensures) in (a .outcome, a .tidy, a .sound)
+returns-5 c = let a = message-answered _ (c .before .before .before .before .before .before .before .before .before .before .before .before .before .before .before .before .before .if1 .left) _ (read-rows (c .before .before .before .before .before .before .before .before .before .opening .ensures) (c .before .before .before .before .before .before .before .before .before .before .no-rows .ensures) (done _ _ _ _ _ (c .before .before .before .before .before .before .before .loop .inv .0) (c .before .before .before .before .before .before .wants .ensures) (c .before .before .before .before .before .before .before .loop .inv .1) (c .before .before .before .before .before .if4 .left)) (c .before .before .before .before .integer-if .ensures)) (c .before .before .before .ended .ensures) (c .before .if6 .left) (c .closed .ensures) (c .before .before .before .before .before .before .before .loop .inv .2 ∙ c .before .before .before .before .before .before .before .before .before .before .before .no-entries .ensures) in (a .outcome, a .tidy, a .sound)
 
 pub read-spec : {M : Type 1} → statement M
-read-spec = tie.close (tie.spec Inv-loop μ-loop refused-requires returns chosen-requires refused-requires-2 returns-2 link-requires returns-3 opening-requires no-entries-requires no-rows-requires loop-holds wants-requires next-row-requires mul-row element-set-from-row add-used loop-less loop-again loop-less-2 loop-again-2 integer-if-requires ended-requires refused-requires-3 returns-4 closed-requires returns-5)
+read-spec = tie.close (tie.spec Inv-loop μ-loop refused-requires returns chosen-requires refused-requires-2 returns-2 link-requires returns-3 no-entries-requires no-rows-requires opening-requires loop-holds wants-requires next-row-requires mul-row element-set-from-row add-used loop-less loop-again loop-less-2 loop-again-2 integer-if-requires ended-requires refused-requires-3 returns-4 closed-requires returns-5)
