@@ -32,8 +32,7 @@ use rows::wants;
 use services::opening;
 
 // The message that `s` is: 21 for more than 512 octets, then the faults of its components, and 14 for octets left behind it. The rows of a service's
-// message are held here, where the answer is built, so that they are copied once; and they are
-// cleared before the message is read, so that what was stored is there when it is copied.
+// message are held here, where the answer is built, so that they are copied once, and cleared before it is read, so that the copy does not wait for the stores.
 pub fn read(s: &[u8]) -> Reading
     ensures { λ r. ⌜ (outcomeOf (now (s .entry)) r ≡ readMessage (now (s .entry))) × Tidy r × SoundRecord (now (s .entry)) r ⌝ }
 {
