@@ -8,7 +8,7 @@ import re
 import sys
 from pathlib import Path
 
-from calls import promises_cited, public_function
+from calls import clauses_for_the_list, public_function
 from definitions import Scope, Tree, Unreadable, imported
 
 HERE = Path(__file__).resolve().parent
@@ -103,7 +103,7 @@ def uncited_clauses(tree, rows):
             known.add((function.source.name, function.name, clause.name))
         except Unreadable:
             pass  # told with the row
-    return [(f, c) for f, c in promises_cited(tree) if (f.source.name, f.name, c.name) not in known]
+    return [(f, c) for f, c in clauses_for_the_list(tree) if (f.source.name, f.name, c.name) not in known]
 
 
 def proved_names(tree):
@@ -143,7 +143,7 @@ def faults_of(tree, rows, count):
     if len(rows) != count:
         faults.append(f'the list has {len(rows)} rows and its head says {count}; put the row back, or change the head with the reason')
     for function, clause in uncited_clauses(tree, rows):
-        faults.append(f'clause "{clause.name}" of {function.name} in {function.source.name} has no row; name it and add the row that run.sh --update prints')
+        faults.append(f'clause "{clause.name}" of {function.name} in {function.source.name} has no row; add the row that run.sh --update prints')
     for statement in held_by_nothing(tree, rows):
         faults.append(f'{statement} is a statement that nothing holds; cite it in a clause of a public call, and add its row')
     return faults

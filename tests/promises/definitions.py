@@ -15,7 +15,7 @@ RT_TOKEN = re.compile(
     r'//[^\n]*|"(?:[^"\\]|\\.)*"|b?\'(?:[^\'\\]|\\.)\'|[A-Za-z_]\w*(?:::[A-Za-z_]\w*)*|\d\w*|\S'
 )
 CRATE_PATH = re.compile(r'Rattle·(\w+)(?:·specs)?\.specs\.(.+)$')
-USE = re.compile(r'(?:ghost )?use (\S+?)(?:\.\{(.*)\}| as (\S+))?;?\s*$', re.DOTALL)
+USE = re.compile(r'(?:ghost )?use (\S+?)(?:\.\{(.*)\}| as ([^\s;]+))?;?\s*$', re.DOTALL)
 
 
 class Unreadable(Exception):
@@ -23,6 +23,8 @@ class Unreadable(Exception):
 
 
 def antt_tokens(text):
+    if '{-' in text:
+        raise Unreadable('a comment between {- and -}')
     tokens = []
     for token in ANTT_TOKEN.findall(ANTT_COMMENT.sub('', text)):
         if len(token) > 1 and token.endswith('.'):  # the dot behind a bound name
@@ -32,9 +34,11 @@ def antt_tokens(text):
     return tokens
 
 
-def rt_spans(text):
-    """The tokens of a source file with their places, comments left out."""
-    return [(m.group(), m.start(), m.end()) for m in RT_TOKEN.finditer(text) if not m.group().startswith('//')]
+def without_comments(text):
+    """A source file's text with spaces in place of its comments."""
+    if '/*' in text:
+        raise Unreadable('a comment between /* and */')
+    return RT_TOKEN.sub(lambda m: ' ' * len(m.group()) if m.group().startswith('//') else m.group(), text)
 
 
 def matching(tokens, at):
@@ -171,9 +175,9 @@ class SourceFile:
     def __init__(self, path, name):
         self.name = name
         self.crate = name.split('/')[0]
-        self.text = path.read_text()
-        self.spans = rt_spans(self.text)
-        self.tokens = [token for token, _, _ in self.spans]
+        self.text = without_comments(path.read_text())
+        self.spans = [(m.start(), m.end()) for m in RT_TOKEN.finditer(self.text)]
+        self.tokens = [self.text[start:end] for start, end in self.spans]
         self.scope = Scope()
         for line in re.findall(r'^ghost use [^;]*;', self.text, re.MULTILINE):
             self.scope.add(line, name)
@@ -247,27 +251,28 @@ class Tree:
     def definition(self, key):
         """The definition that a key leads to, or None for a path into a library of the toolchain."""
         if key[0] == 'path':
-            return self.by_path(key[1], key[2].split('::'))
+            parts = key[2].split('::')
+            source = self.home_of(key[1], parts, lambda source, name: name in source.definitions)
+            return source and source.definitions[parts[-1]]
         file = self.file(key[0])
         name = getattr(file, 'owner', {}).get(key[1], key[1])
         if name not in file.definitions:
             raise Unreadable(f'{key[0]}:{key[1]} is gone')
         return file.definitions[name]
 
-    def by_path(self, crate, parts):
-        """What `crate::module::Name` or `other::Name` is, through what each file uses and hands on."""
-        home = crate if parts[0] == 'crate' else parts[0]
-        if not (self.crates / home / 'src').is_dir():
-            home, parts = crate, ['crate'] + parts
-        modules, name = '/'.join(parts[1:-1]), parts[-1]
-        file = f'{home}/src/{modules or self.front(home)}.rt'
+    def home_of(self, crate, parts, declares):
+        """The source file that declares what the path crate::module::Name or other::Name leads to, through what each file hands on; or None."""
+        if parts[0] != 'crate' and (self.crates / crate / 'src' / f'{parts[0]}.rt').is_file():
+            parts = ['crate'] + parts
+        home, name = crate if parts[0] == 'crate' else parts[0], parts[-1]
+        file = f'{home}/src/{"/".join(parts[1:-1]) or self.front(home)}.rt'
         if not (self.crates / file).is_file():
             return None
         source = self.file(file)
-        if name in source.definitions:
-            return source.definitions[name]
+        if declares(source, name):
+            return source
         onward = source.uses.get(name)
-        return self.by_path(home, onward.split('::')) if onward else None
+        return self.home_of(home, onward.split('::'), declares) if onward else None
 
     def front(self, crate):
         return 'lib' if (self.crates / crate / 'src' / 'lib.rt').is_file() else 'main'
