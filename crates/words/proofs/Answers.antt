@@ -5,8 +5,8 @@ use Rattle.words.specs.Answer.{answerNumber, numberIn, kindIn, firstIn, 
 pub unpacking-answer : UnpackingAnswer
 unfolding UnpackingAnswer answerNumber numberIn kindIn firstIn secondIn
 unpacking-answer number kind first second n k f s = record {
-  number-back = omega (arith, n);
-  kind-back = omega (arith, n, k);
-  first-back = omega (arith, n, k, f);
-  second-back = omega (arith, n, k, s);
+  number-is = omega (arith, n);
+  kind-is = omega (arith, n, k);
+  first-is = omega (arith, n, k, f);
+  second-is = omega (arith, n, k, s);
 }

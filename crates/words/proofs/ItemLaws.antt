@@ -1,11 +1,12 @@
--- Items that are put as words read back. Assumes nothing.
+-- Items that are put as words read back; and one that is not sound makes them all so. Assumes nothing.
 use mathlib.Core.Path.{_≡_, refl, ap, sym, _∙_}
+use mathlib.Core.Bool.{Bool, false}
 use mathlib.Core.List.{List, [], _∷_, _++_, append-assoc}
-use Prim.Native.Nat.{ℕ, zero, suc, _+_, _*_, _≤_}
+use Prim.Native.Nat.{ℕ, zero, suc, _+_, _*_, _≤_, _<_}
 use native.Mathlib.Omega.{arith}
 use native.Mathlib.Nat.{mul-zero, mul-suc}
 use lib.ListN.{length, length-append, take}
-use Rattle.words.specs.Items.{wordsOf, itemsFrom}
+use Rattle.words.specs.Items.{wordsOf, itemsFrom, All, none, more}
 
 module _ {A : Type 0} (item : List ℕ → ℕ → A) (size : ℕ) where
   pub length-items : (n : ℕ) (words : List ℕ) (at : ℕ) → length (itemsFrom item size n words at) ≡ n
@@ -19,11 +20,6 @@ module _ {A : Type 0} (item : List ℕ → ℕ → A) (size : ℕ) where
   take-items zero n words at h = refl
   take-items (suc k) zero words at h = absurd (omega arith)
   take-items (suc k) (suc n) words at h = ap (λ (l : List A). item words at ∷ l) (take-items k n words (at + size) (omega arith))
-
--- what each of them has to satisfy
-pub data All {A : Type 0} (Fits : A → Type 0) : List A → Type 0 where
-  none : All Fits []
-  more : {x : A} {xs : List A} → Fits x → All Fits xs → All Fits (x ∷ xs)
 
 module _ {A : Type 0} (words : A → List ℕ) (size : ℕ) (sized : (x : A) → length (words x) ≡ size) where
   pub length-words : (xs : List A) → length (wordsOf words xs) ≡ size * length xs
@@ -49,3 +45,23 @@ module _ {A : Type 0} (words : A → List ℕ) (size : ℕ) (sized : (x : A) →
 
     pub items-back : (xs : List A) → All Fits xs → itemsFrom item size (length xs) (wordsOf words xs) 0 ≡ xs
     items-back xs f = items-behind [] xs f
+
+-- ---- one that is not sound
+
+-- a test that asks of each item, among others, whether it is sound
+module _ {A : Type 0} (item : List ℕ → ℕ → A) (size : ℕ) (sound : A → Bool) (all : List A → Bool)
+    (first : (x : A) (xs : List A) → sound x ≡ false → all (x ∷ xs) ≡ false) (rest : (x : A) (xs : List A) → all xs ≡ false → all (x ∷ xs) ≡ false) where
+  unsound-from : (i n : ℕ) (words : List ℕ) (at : ℕ) → i < n → sound (item words (at + size * i)) ≡ false → all (itemsFrom item size n words at) ≡ false
+  unfolding itemsFrom
+  unsound-from i zero words at h e = absurd (omega arith)
+  unsound-from zero (suc n) words at h e =
+      let z : at + size * 0 ≡ at = omega (arith, mul-zero size) in
+      first _ _ (ap (λ (k : ℕ). sound (item words k)) (sym z) ∙ e)
+  unsound-from (suc i) (suc n) words at h e =
+      let s : at + size * suc i ≡ at + size + size * i = omega (arith, mul-suc size i) in
+      rest _ _ (unsound-from i n words (at + size) (omega arith) (ap (λ (k : ℕ). sound (item words k)) (sym s) ∙ e))
+
+  pub one-unsound : (i n : ℕ) (words : List ℕ) → i < n → sound (item words (size * i)) ≡ false → all (itemsFrom item size n words 0) ≡ false
+  one-unsound i n words h e =
+      let z : 0 + size * i ≡ size * i = omega arith in
+      unsound-from i n words 0 h (ap (λ (k : ℕ). sound (item words k)) z ∙ e)

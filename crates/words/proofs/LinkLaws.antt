@@ -1,10 +1,10 @@
 -- Laws of the link's words: what is put reads back, and words that are no link are out of range. Assumes nothing.
 use mathlib.Core.Path.{_≡_, refl, ap, _∙_}
-use mathlib.Core.Bool.{true, false, _&&_}
+use mathlib.Core.Bool.{true, _&&_}
 use mathlib.Core.List.{List, [], _∷_, _++_, append-nil}
 use Prim.Native.Nat.{ℕ, _+_, _<_, _^_}
 use native.Mathlib.Omega.{arith}
-use lib.ListN.{length, getD, drop, replicate}
+use lib.ListN.{length, getD, drop}
 use lib.Seq.{sets, sets-eq, drop-length}
 use borrow.Author.Tests.{eq-eqb, ne-eqb, ltb-true}
 use lib.Dec.{eqb, ltb}
@@ -14,8 +14,8 @@ use Rattle.initialisation.specs.declared.records.Beacon.{Beacon}
 use Rattle.initialisation.specs.declared.records.Phase.{Phase}
 use Rattle.initialisation.specs.declared.records.Phase.the-variants.{Sleeping, Looking, Ready}
 use Rattle.initialisation.specs.declared.records.Link.{Link}
-use Rattle.initialisation.specs.Link.{phaseInRange, linkInRange}
-use Rattle.words.specs.LinkWords.{phaseNumber, phaseBeacon, phaseLid, linkWords, withLink, phaseNumbered, phaseIn, linkIn}
+use Rattle.initialisation.specs.Link.{phaseInRange}
+use Rattle.words.specs.LinkWords.{phaseNumber, phaseBeacon, phaseLid, linkWords, withLink, phaseNumbered, phaseIn, linkIn, UnpackingLink, UnpackingPutLink, OtherLinkLength, OtherPhase, FirstLink}
 use Rattle.words.specs.Word.{narrowTo}
 use Rattle.words.proofs.Words.{narrow-small}
 
@@ -53,24 +53,27 @@ back-in time tick (Ready beacon lid) e =
     let i : beacon .individual < 2 ^ 27 = ltb-true _ _ (d .0) in
     simp (← narrow-small 32 (beacon .manufacturer) (omega arith), ← narrow-small 32 (beacon .individual) (omega arith))
 
--- a link in range is what its words are
-pub link-back : (link : Link) → linkInRange link ≡ true → linkIn (linkWords link) ≡ link
-link-back link e = back-in (link .time) (link .tick) (link .phase) e
+pub unpacking-link : UnpackingLink
+unfolding UnpackingLink
+unpacking-link link e = back-in (link .time) (link .tick) (link .phase) e
 
--- six words of 0 are the first link
-pub link-first : linkIn (replicate 6 0) ≡ record { time = 0; tick = 0; phase = Sleeping }
-unfolding linkIn phaseIn phaseNumbered
-link-first = refl
+pub unpacking-put-link : UnpackingPutLink
+unfolding UnpackingPutLink UnpackingLink withLink
+unpacking-put-link link words e n = rw (eq-eqb (length words) 6 n) (unpacking-link link e)
 
--- words of another number are out of range
-pub link-length : (words : List ℕ) → (length words ≡ 6 → ⊥) → linkInRange (linkIn words) ≡ false
-unfolding linkIn phaseIn
-link-length words n = simp (ne-eqb _ _ n)
+pub first-link : FirstLink
+unfolding FirstLink linkIn phaseIn phaseNumbered
+first-link = refl
 
--- so is another phase
-pub link-phase : (words : List ℕ) → 2 < getD words 0 0 → linkInRange (linkIn words) ≡ false
-unfolding linkIn phaseIn phaseNumbered
-link-phase words h =
+-- ---- what is refused
+
+pub other-link-length : OtherLinkLength
+unfolding OtherLinkLength linkIn phaseIn
+other-link-length words n = simp (ne-eqb _ _ n)
+
+pub other-phase : OtherPhase
+unfolding OtherPhase linkIn phaseIn phaseNumbered
+other-phase words h =
     by-cases (eqb (length words) 6)
     (λ e. simp (e, ne-eqb (getD words 0 0) 0 (λ z. omega arith), ne-eqb (getD words 0 0) 1 (λ z. omega arith), ne-eqb (getD words 0 0) 2 (λ z. omega arith)))
     (λ e. simp e)

@@ -78,21 +78,27 @@ tableIn words = pick (eqb (length words) tableLength) (tableHeld words) noTable
 unfoldable pub changeAfter : ℕ → Slot → List ℕ → List ℕ
 changeAfter i slot words = tableAfter (tableOf (set (tableIn words .slots) i slot)) words
 
--- ---- laws (proofs/TableLaws.antt proves each)
+-- ---- promises (proofs/TableLaws.antt proves each; `put_table` cites the second, `put_change` the third, `table_in` the others)
 
--- unpacking what was packed gives it back: each table of eight slots
-unfoldable pub UnpackingPacked : Type 0
-UnpackingPacked = (table : Table) → length (table .slots) ≡ slotCount → tableIn (tableWords table) ≡ table
+-- a table of eight slots is what its words are
+unfoldable pub UnpackingTable : Type 0
+UnpackingTable = (table : Table) → length (table .slots) ≡ slotCount → tableIn (tableWords table) ≡ table
 
--- so words of the right length hold the table that was put into them
-unfoldable pub UnpackingPut : Type 0
-UnpackingPut =
+-- so 41 words hold the table that was put into them
+unfoldable pub UnpackingPutTable : Type 0
+UnpackingPutTable =
     (table : Table) (words : List ℕ) → length (table .slots) ≡ slotCount → length words ≡ tableLength → tableIn (tableAfter table words) ≡ table
 
+-- and after a change their table with that slot
+unfoldable pub UnpackingChange : Type 0
+UnpackingChange =
+    (i : ℕ) (slot : Slot) (words : List ℕ) → length words ≡ tableLength
+    → tableIn (changeAfter i slot words) ≡ tableOf (set (tableIn words .slots) i slot)
+
 -- words of another length are no sound table
-unfoldable pub WrongLength : Type 0
-WrongLength = (words : List ℕ) → (length words ≡ tableLength → ⊥) → isSound (tableIn words) ≡ false
+unfoldable pub OtherTableLength : Type 0
+OtherTableLength = (words : List ℕ) → (length words ≡ tableLength → ⊥) → isSound (tableIn words) ≡ false
 
 -- words that are all zero are the empty table
-unfoldable pub FirstState : Type 0
-FirstState = tableIn (replicate 41 0) ≡ emptyTable
+unfoldable pub FirstTable : Type 0
+FirstTable = tableIn (replicate tableLength 0) ≡ emptyTable

@@ -4,7 +4,7 @@ ghost use Prim.Native.Nat.{_*_, _<_, _^_};
 ghost use lib.ListN.{replicate};
 ghost use Rattle.directory.specs.Directory.{noRow};
 ghost use Rattle.directory.specs.Gathered.{listOf};
-ghost use Rattle.words.specs.RowWords.{idIn, areaWord, rowAt, rowsIn, withPart};
+ghost use Rattle.words.specs.RowWords.{idIn, areaWord, rowAt, rowsIn, withPart, UnpackingRows, OtherRowsLength, LargeId, OtherArea, PartPut};
 use crate::word::narrow;
 use crate::word::narrow_word;
 use crate::word::put;
@@ -54,7 +54,11 @@ fn not_sound() -> Directory
 
 // The directory that the words are; one that is not sound where a word is left over, or there are more than 32 rows.
 pub fn directory_in(words: &[u32]) -> Directory
-    ensures { λ r. ⌜ listOf r ≡ rowsIn (now (words .entry)) ⌝ }
+    ensures answer { λ r. ⌜ listOf r ≡ rowsIn (now (words .entry)) ⌝ }
+    ensures unpacking { λ _. ⌜ UnpackingRows ⌝ }
+    ensures other_length { λ _. ⌜ OtherRowsLength ⌝ }
+    ensures large_id { λ _. ⌜ LargeId ⌝ }
+    ensures other_area { λ _. ⌜ OtherArea ⌝ }
 {
     if words.len() % ROW_WORDS != 0 {
         return not_sound();
@@ -80,7 +84,8 @@ fn area_word(writable: bool) -> u32
 
 // Puts a row's area, start and length to the front, where there are three words for them.
 pub fn put_part(row: Row, part: &mut [u32])
-    ensures { λ _. ⌜ now (part .exit) ≡ withPart row (now (part .entry)) ⌝ }
+    ensures answer { λ _. ⌜ now (part .exit) ≡ withPart row (now (part .entry)) ⌝ }
+    ensures part { λ _. ⌜ PartPut ⌝ }
 {
     if part.len() < PART_WORDS {
         return;

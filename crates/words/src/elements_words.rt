@@ -1,7 +1,7 @@
 // Elements as words, four each: eid, AID, and where the mark starts and how many octets it has.
 ghost use mathlib.Core.Path.{_≡_};
 ghost use Prim.Native.Nat.{_≤_};
-ghost use Rattle.words.specs.ElementWords.{elementAt, elementCount, elementsIn};
+ghost use Rattle.words.specs.ElementWords.{elementAt, elementCount, elementsIn, UnpackingElements, OtherElementsLength, LargeElement};
 use crate::word::narrow;
 use crate::word::word;
 use initialisation::Element;
@@ -39,7 +39,10 @@ fn count_in(words: usize) -> usize
 
 // The elements that the words are.
 pub fn elements_in(words: &[u32]) -> Elements
-    ensures { λ r. ⌜ r ≡ elementsIn (now (words .entry)) ⌝ }
+    ensures answer { λ r. ⌜ r ≡ elementsIn (now (words .entry)) ⌝ }
+    ensures unpacking { λ _. ⌜ UnpackingElements ⌝ }
+    ensures other_length { λ _. ⌜ OtherElementsLength ⌝ }
+    ensures large_element { λ _. ⌜ LargeElement ⌝ }
 {
     let count = count_in(words.len());
     let list = [

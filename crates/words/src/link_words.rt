@@ -4,6 +4,7 @@ ghost use mathlib.Core.List.{[], _∷_};
 ghost use lib.Seq.{sets};
 ghost use Rattle.words.specs.Word.{narrowTo};
 ghost use Rattle.words.specs.LinkWords.{noBeacon, phaseNumber, phaseBeacon, phaseLid, withLink, noPhase, phaseIn, linkIn};
+ghost use Rattle.words.specs.LinkWords.{UnpackingLink, UnpackingPutLink, OtherLinkLength, OtherPhase, FirstLink};
 use crate::word::narrow_word;
 use crate::word::put;
 use crate::word::word;
@@ -66,7 +67,11 @@ fn out_of_range() -> Phase
 
 // The link that the words are; one out of range where there are not six of them, or the phase is no phase.
 pub fn link_in(words: &[u32]) -> Link
-    ensures { λ r. ⌜ r ≡ linkIn (now (words .entry)) ⌝ }
+    ensures answer { λ r. ⌜ r ≡ linkIn (now (words .entry)) ⌝ }
+    ensures unpacking { λ _. ⌜ UnpackingLink ⌝ }
+    ensures other_length { λ _. ⌜ OtherLinkLength ⌝ }
+    ensures other_phase { λ _. ⌜ OtherPhase ⌝ }
+    ensures first_state { λ _. ⌜ FirstLink ⌝ }
 {
     Link {
         time: word(words, 4),
@@ -120,7 +125,8 @@ fn put_six(words: &mut [u32], phase: u32, beacon: Beacon, lid: u32, time: u32, t
 
 // Puts the link's words, where there are six.
 pub fn put_link(link: Link, words: &mut [u32])
-    ensures { λ _. ⌜ now (words .exit) ≡ withLink link (now (words .entry)) ⌝ }
+    ensures answer { λ _. ⌜ now (words .exit) ≡ withLink link (now (words .entry)) ⌝ }
+    ensures unpacking { λ _. ⌜ UnpackingPutLink ⌝ }
 {
     if words.len() != LINK_WORDS {
         return;

@@ -4,6 +4,7 @@ ghost use Prim.Native.Nat.{_≤_};
 ghost use lib.ListN.{length};
 ghost use Rattle.slots.specs.Slots.{wordOf};
 ghost use Rattle.words.specs.TableWords.{slotPut, slotIn, slotsIn, tableIn, tableAfter, changeAfter};
+ghost use Rattle.words.specs.TableWords.{UnpackingTable, UnpackingPutTable, UnpackingChange, OtherTableLength, FirstTable};
 use crate::word::put;
 use crate::word::word;
 use slots::Slot;
@@ -30,7 +31,10 @@ fn slot_in(words: &[u32], at: usize) -> Slot
 
 // The table that the words are; one that is not sound where there are not 41 of them.
 pub fn table_in(words: &[u32]) -> Table
-    ensures { λ r. ⌜ r ≡ tableIn (now (words .entry)) ⌝ }
+    ensures answer { λ r. ⌜ r ≡ tableIn (now (words .entry)) ⌝ }
+    ensures unpacking { λ _. ⌜ UnpackingTable ⌝ }
+    ensures other_length { λ _. ⌜ OtherTableLength ⌝ }
+    ensures first_state { λ _. ⌜ FirstTable ⌝ }
 {
     if words.len() != TABLE_WORDS {
         let none = [slots::free_slot(); 8];
@@ -67,7 +71,8 @@ fn put_slot(words: &mut [u32], at: usize, slot: Slot)
 
 // Puts the table's words, where there are 41.
 pub fn put_table(table: Table, words: &mut [u32])
-    ensures { λ _. ⌜ now (words .exit) ≡ tableAfter table (now (words .entry)) ⌝ }
+    ensures answer { λ _. ⌜ now (words .exit) ≡ tableAfter table (now (words .entry)) ⌝ }
+    ensures unpacking { λ _. ⌜ UnpackingPutTable ⌝ }
 {
     if words.len() != TABLE_WORDS {
         return;
@@ -101,7 +106,8 @@ fn busy_of(words: &[u32]) -> u32
 
 // Puts one slot and the busy word that the slots then have, where there are 41 words.
 pub fn put_change(i: usize, slot: Slot, words: &mut [u32])
-    ensures { λ _. ⌜ now (words .exit) ≡ changeAfter i slot (now (words .entry)) ⌝ }
+    ensures answer { λ _. ⌜ now (words .exit) ≡ changeAfter i slot (now (words .entry)) ⌝ }
+    ensures unpacking { λ _. ⌜ UnpackingChange ⌝ }
 {
     if words.len() != TABLE_WORDS {
         return;

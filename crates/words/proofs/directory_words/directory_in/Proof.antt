@@ -3,7 +3,7 @@ use mathlib.Core.Path.{_∙_}
 use native.Mathlib.Omega.{arith}
 use borrow.Author.Needs.{needs}
 use Prim.Native.Nat.{_-_, _≤_}
-use Rattle.words.proofs.RowLaws.{Left, left-first, left-next, left-none, left-over, too-many, rows-read}
+use Rattle.words.proofs.RowLaws.{Left, left-first, left-next, left-none, left-over, too-many, rows-read, unpacking-rows, other-rows-length, large-id, other-area}
 use Rattle.words.proofs.directory_words.directory_in.Statement.{statement}
 use Rattle.words.proofs.directory_words.directory_in.Tie as tie
 
@@ -17,13 +17,14 @@ not-sound-requires : tie.Need-not-sound-requires Inv-loop μ-loop
 not-sound-requires c κs = search needs
 
 returns : tie.Need-returns Inv-loop μ-loop
-returns c = c .not-sound .ensures ∙ left-over _ (c .before .if1 .taken)
+returns c = (c .not-sound .ensures ∙ left-over _ (c .before .if1 .taken), (unpacking-rows, (other-rows-length, (large-id, other-area))))
 
 not-sound-requires-2 : tie.Need-not-sound-requires-2 Inv-loop μ-loop
 not-sound-requires-2 c κs = search needs
 
 returns-2 : tie.Need-returns-2 Inv-loop μ-loop
-returns-2 c = c .not-sound2 .ensures ∙ too-many _ (c .before .before .if1 .left) (c .before .if2 .taken)
+returns-2 c =
+    (c .not-sound2 .ensures ∙ too-many _ (c .before .before .if1 .left) (c .before .if2 .taken), (unpacking-rows, (other-rows-length, (large-id, other-area))))
 
 empty-requires : tie.Need-empty-requires Inv-loop μ-loop
 empty-requires c κs = search needs
@@ -51,7 +52,8 @@ loop-again c =
 returns-3 : tie.Need-returns-3 Inv-loop μ-loop
 returns-3 c =
     let b = c .before .before .before in
-    rows-read _ (b .before .if1 .left) (b .if2 .left) (left-none _ _ (c .before .loop .d) (c .before .loop .i) (omega arith) (c .before .loop .inv .1))
+    let all = left-none _ _ (c .before .loop .d) (c .before .loop .i) (omega arith) (c .before .loop .inv .1) in
+    (rows-read _ (b .before .if1 .left) (b .if2 .left) all, (unpacking-rows, (other-rows-length, (large-id, other-area))))
 
 pub directory-in-spec : {M : Type 1} → statement M
 directory-in-spec =

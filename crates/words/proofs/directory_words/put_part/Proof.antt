@@ -1,13 +1,13 @@
 -- `words::directory_words::put_part` meets its contract: its stores, one behind the other. Assumes nothing.
 use native.Mathlib.Omega.{arith}
-use Rattle.words.proofs.RowLaws.{part-none, part-put}
+use Rattle.words.proofs.RowLaws.{part-none, part-some, part-put}
 use Rattle.words.specs.RowWords.{partWords}
 use borrow.Author.Needs.{needs}
 use Rattle.words.proofs.directory_words.put_part.Statement.{statement}
 use Rattle.words.proofs.directory_words.put_part.Tie as tie
 
 returns : tie.Need-returns
-returns c = part-none _ _ (c .if1 .taken)
+returns c = (part-none _ _ (c .if1 .taken), part-put)
 
 area-word-requires : tie.Need-area-word-requires
 area-word-requires c κs = search needs
@@ -32,7 +32,7 @@ same-length c = search needs
 
 returns-2 : tie.Need-returns-2
 unfolding partWords
-returns-2 c = part-put _ _ (omega arith) (cc)
+returns-2 c = (part-some _ _ (omega arith) (cc), part-put)
 
 pub put-part-spec : {M : Type 1} → statement M
 put-part-spec =

@@ -1,6 +1,7 @@
 -- `words::elements_words::elements_in` meets its contract: eight elements, four words apart. Assumes nothing.
 use Rattle.words.specs.Items.{itemsFrom}
 use Rattle.words.specs.ElementWords.{elementsIn}
+use Rattle.words.proofs.ElementLaws.{unpacking-elements, other-elements-length, large-element}
 use borrow.Author.Needs.{needs}
 use Rattle.words.proofs.elements_words.elements_in.Statement.{statement}
 use Rattle.words.proofs.elements_words.elements_in.Tie as tie
@@ -34,7 +35,7 @@ element-in-requires-8 c κs = search needs
 
 returns : tie.Need-returns
 unfolding itemsFrom elementsIn
-returns c = cc
+returns c = (cc, (unpacking-elements, (other-elements-length, large-element)))
 
 pub elements-in-spec : {M : Type 1} → statement M
 elements-in-spec =

@@ -1,5 +1,6 @@
 -- `words::link_words::link_in` meets its contract. Assumes nothing.
 use Rattle.words.specs.LinkWords.{linkIn}
+use Rattle.words.proofs.LinkLaws.{unpacking-link, other-link-length, other-phase, first-link}
 use borrow.Author.Needs.{needs}
 use Rattle.words.proofs.link_words.link_in.Statement.{statement}
 use Rattle.words.proofs.link_words.link_in.Tie as tie
@@ -15,7 +16,7 @@ phase-in-requires c κs = search needs
 
 returns : tie.Need-returns
 unfolding linkIn
-returns c = cc
+returns c = (cc, (unpacking-link, (other-link-length, (other-phase, first-link))))
 
 pub link-in-spec : {M : Type 1} → statement M
 link-in-spec = tie.close (tie.spec word-requires word-requires-2 phase-in-requires returns)

@@ -4,6 +4,7 @@ use mathlib.Core.Path.{_≡_, ap, _∙_}
 use mathlib.Core.Logic.{⊎-elim}
 use lib.ListN.{length, length-set}
 use Rattle.words.proofs.TableChange.{wordsWith, slot-put, slot-past, still-41, changed, unchanged}
+use Rattle.words.proofs.TableLaws.{unpacking-change}
 use borrow.Author.Needs.{needs}
 use Rattle.words.proofs.table_words.put_change.Statement.{statement}
 use Rattle.words.proofs.table_words.put_change.Tie as tie
@@ -14,7 +15,7 @@ use Rattle.words.proofs.table_words.put_slot.Reads as put-slot-reads
 use Rattle.words.proofs.word.put.Reads as put-reads
 
 returns : tie.Need-returns
-returns c = let a = c .before .before .args in unchanged (now (a .words)) (a .i) (a .slot) (c .if1 .taken)
+returns c = let a = c .before .before .args in (unchanged (now (a .words)) (a .i) (a .slot) (c .if1 .taken), unpacking-change)
 
 mul-put-slot : tie.Need-mul-put-slot
 mul-put-slot c = search needs
@@ -56,7 +57,7 @@ returns-2 c =
     let c4 = c .before .before .before .before in
     let j = c4 .before .before in
     let a = j .before .before .before .args in
-    changed _ _ (now (a .words)) (a .i) _ (a .slot) (j .before .if1 .left) (stored j) (c4 .busy-of .ensures) (c .before .before .put .ensures)
+    (changed _ _ (now (a .words)) (a .i) _ (a .slot) (j .before .if1 .left) (stored j) (c4 .busy-of .ensures) (c .before .before .put .ensures), unpacking-change)
 
 pub put-change-spec : {M : Type 1} → statement M
 put-change-spec =

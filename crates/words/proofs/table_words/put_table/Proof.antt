@@ -6,6 +6,7 @@ use lib.ListN.{length, take, length-set}
 use Rattle.slots.proofs.Tests.{long}
 use Rattle.words.specs.TableWords.{slotsWords}
 use Rattle.words.proofs.TableWords.{put-begun, put-next, put-long, put-all, put-none}
+use Rattle.words.proofs.TableLaws.{unpacking-put-table}
 use borrow.Author.Needs.{needs}
 use native.Mathlib.Omega.{arith}
 use Prim.Native.Nat.{_+_, _*_, _-_, _≤_}
@@ -19,7 +20,7 @@ abbrev μ-loop : tie.MeasureT-loop
 μ-loop words₀ table i₀ words i = 8 - i
 
 returns : tie.Need-returns Inv-loop μ-loop
-returns c = put-none (now (c .before .before .args .words)) (c .before .before .args .t1) (c .if1 .taken)
+returns c = (put-none (now (c .before .before .args .words)) (c .before .before .args .t1) (c .if1 .taken), unpacking-put-table)
 
 put-requires : tie.Need-put-requires Inv-loop μ-loop
 put-requires c κs = search needs
@@ -71,7 +72,7 @@ returns-2 c =
     let start = c6 .before .before in
     let inv = c .before .loop .inv in
     let eight : length (start .args .t1 .slots) ≡ 8 = search (needs, long) in
-    put-all _ (now (start .args .words)) (start .args .t1) (c .before .loop .i) (omega arith) (c6 .if1 .left) (inv .2) eight (inv .3)
+    (put-all _ (now (start .args .words)) (start .args .t1) (c .before .loop .i) (omega arith) (c6 .if1 .left) (inv .2) eight (inv .3), unpacking-put-table)
 
 pub put-table-spec : {M : Type 1} → statement M
 put-table-spec =

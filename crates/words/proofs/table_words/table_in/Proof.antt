@@ -6,7 +6,7 @@ use Prim.Native.Nat.{_-_, _^_}
 use Rattle.slots.specs.declared.Slot.{Slot}
 use Rattle.slots.specs.declared.Table.{Table}
 use Rattle.words.specs.TableWords.{slotsIn}
-use Rattle.words.proofs.TableLaws.{held-in, none-in}
+use Rattle.words.proofs.TableLaws.{held-in, none-in, unpacking-table, other-table-length, first-table}
 use borrow.Author.Needs.{needs}
 use Rattle.words.proofs.table_words.table_in.Statement.{statement}
 use Rattle.words.proofs.table_words.table_in.Tie as tie
@@ -15,8 +15,11 @@ free-slot-requires : tie.Need-free-slot-requires
 free-slot-requires c κs = search needs
 
 returns : tie.Need-returns
-returns c =
-    none-in _ (now (c .before .before .before .args .words)) (c .before .if1 .taken) (ap (λ (s : Slot). the (record { busy = 2 ^ 32 - 1; slots = s ∷ s ∷ s ∷ s ∷ s ∷ s ∷ s ∷ s ∷ [] })) (c .free-slot .ensures))
+returns c = (
+  none-in _ (now (c .before .before .before .args .words)) (c .before .if1 .taken)
+      (ap (λ (s : Slot). the (record { busy = 2 ^ 32 - 1; slots = s ∷ s ∷ s ∷ s ∷ s ∷ s ∷ s ∷ s ∷ [] })) (c .free-slot .ensures)),
+  (unpacking-table, (other-table-length, first-table)),
+)
   where
     the : Table → Table
     the t = t
@@ -53,7 +56,7 @@ unfolding slotsIn
 returns-2 c =
     let c4 = c .before .before .before .before in
     let c8 = c4 .before .before .before .before in
-    held-in _ (now (c8 .before .before .before .args .words)) (c8 .before .if1 .left)
+    let held = held-in _ (now (c8 .before .before .before .args .words)) (c8 .before .if1 .left)
     (λ i. record {
       busy = c8 .word .ensures i;
       slots =
@@ -66,7 +69,8 @@ returns-2 c =
           ∷ c .before .slot-in7 .ensures i
           ∷ c .slot-in8 .ensures i
           ∷ [];
-    })
+    }) in
+    (held, (unpacking-table, (other-table-length, first-table)))
 
 pub table-in-spec : {M : Type 1} → statement M
 table-in-spec =
