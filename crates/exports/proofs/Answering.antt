@@ -27,7 +27,8 @@ use Rattle.reassembly.specs.Engine.{Taken, held, whole, Outcome, slotFor, facts
 use Rattle.reassembly.proofs.Passed.{first-clear, passed, valid-is}
 use Rattle.words.specs.Answer.{UnpackingAnswer}
 use Rattle.words.proofs.Answers.{unpacking-answer}
-use Rattle.exports.specs.Fragments.{isTaken, FragmentTold, isSwept, SweepTold}
+use Rattle.exports.specs.Fragments.{isTaken, fragmentNumber, FragmentSays, isSwept, sweepNumber, SweepSays}
+use Rattle.exports.proofs.Saying.{says-refused}
 
 -- ---- a fragment's answer
 
@@ -49,11 +50,11 @@ Small (refused n) = (eqb n 0 ≡ false) × (n < 2 ^ 8)
 Small (accepted (held o d)) = (o ≤ 512) × (d ≤ 512)
 Small (accepted (whole o d)) = (o ≤ 512) × (d ≤ 512)
 
-told-by : (x : FragmentAnswer) → Small (fragmentAnswer x) → FragmentTold x
-unfolding FragmentTold UnpackingAnswer
-told-by (fragment.Held o d) s = unpacking-answer 0 1 o d (omega arith) (omega arith) (omega (arith, s .0)) (omega (arith, s .1))
-told-by (fragment.Whole o d) s = unpacking-answer 0 2 o d (omega arith) (omega arith) (omega (arith, s .0)) (omega (arith, s .1))
-told-by (fragment.Refused n) s = (s .0, unpacking-answer n 0 0 0 (s .1) (omega arith) (omega arith) (omega arith))
+says-by : (x : FragmentAnswer) → Small (fragmentAnswer x) → FragmentSays (fragmentNumber x) x
+unfolding fragmentNumber FragmentSays UnpackingAnswer
+says-by (fragment.Held o d) s = unpacking-answer 0 1 o d (omega arith) (omega arith) (omega (arith, s .0)) (omega (arith, s .1))
+says-by (fragment.Whole o d) s = unpacking-answer 0 2 o d (omega arith) (omega arith) (omega (arith, s .0)) (omega (arith, s .1))
+says-by (fragment.Refused n) s = says-refused n 0 (s .0) (s .1) (omega arith)
 
 module _ (lid tick : ℕ) (lsdu : List ℕ) (t : Table) (store output : List ℕ) where
   number : ℕ
@@ -118,8 +119,8 @@ module _ (lid tick : ℕ) (lsdu : List ℕ) (t : Table) (store output : List ℕ
     pub fragment-small : Small (fragmentAnswer (r .answer))
     fragment-small = subst (λ (a : Answer Taken). Small a) (sym (gives .answer-is)) small
 
-    pub fragment-told : FragmentTold (r .answer)
-    fragment-told = told-by (r .answer) fragment-small
+    pub fragment-says : FragmentSays (fragmentNumber (r .answer)) (r .answer)
+    fragment-says = says-by (r .answer) fragment-small
 
     pub fragment-clear : isTaken (r .answer) ≡ true → Clear
     unfolding fragmentOf number taken none
@@ -155,10 +156,10 @@ abbrev SweepSmall : Answer ℕ → Type 0
 SweepSmall (refused n) = (eqb n 0 ≡ false) × (n < 2 ^ 8)
 SweepSmall (accepted d) = d < 2 ^ 24
 
-sweep-told-by : (x : SweepAnswer) → SweepSmall (sweepAnswer x) → SweepTold x
-unfolding SweepTold UnpackingAnswer
-sweep-told-by (sweep.Dropped d) s = unpacking-answer 0 0 d 0 (omega arith) (omega arith) s (omega arith)
-sweep-told-by (sweep.Refused n) s = (s .0, unpacking-answer n 0 0 0 (s .1) (omega arith) (omega arith) (omega arith))
+sweep-says-by : (x : SweepAnswer) → SweepSmall (sweepAnswer x) → SweepSays (sweepNumber x) x
+unfolding sweepNumber SweepSays UnpackingAnswer
+sweep-says-by (sweep.Dropped d) s = unpacking-answer 0 0 d 0 (omega arith) (omega arith) s (omega arith)
+sweep-says-by (sweep.Refused n) s = says-refused n 0 (s .0) (s .1) (omega arith)
 
 -- a sweep whose first check is for the table, and whose numbers are at most 3
 module _ (lid-check : List Check) (test : Slot → Bool) (t : Table) (eight : length (t .slots) ≡ 8)
@@ -186,8 +187,8 @@ module _ (lid-check : List Check) (test : Slot → Bool) (t : Table) (eight : le
       go false e = (e, omega (arith, first-le 3 checks numbers))
 
   module _ (x : SweepAnswer) (t' : Table) (a : sweepAnswer x ≡ sweptBy (check 2 (not (isSound t)) ∷ lid-check) test t .answer) (after : t' ≡ sweptBy (check 2 (not (isSound t)) ∷ lid-check) test t .table) where
-    sweep-told : SweepTold x
-    sweep-told = sweep-told-by x (subst (λ (y : Answer ℕ). SweepSmall y) (sym a) sweep-small)
+    sweep-says : SweepSays (sweepNumber x) x
+    sweep-says = sweep-says-by x (subst (λ (y : Answer ℕ). SweepSmall y) (sym a) sweep-small)
 
     sweep-clear : isSwept x ≡ true → isSound t ≡ true
     unfolding sweptBy checks yes no isSwept
@@ -209,7 +210,7 @@ module _ (lid-check : List Check) (test : Slot → Bool) (t : Table) (eight : le
 
 -- what is known of a sweep's answer
 pub record SweepFacts (t : Table) (r : SweepResult) : Type 0 where
-  pub told : SweepTold (r .answer)
+  pub says : SweepSays (sweepNumber (r .answer)) (r .answer)
   pub clear : isSwept (r .answer) ≡ true → isSound t ≡ true
   pub same : isSwept (r .answer) ≡ false → r .table ≡ t
 
@@ -217,7 +218,7 @@ module _ (t : Table) (eight : length (t .slots) ≡ 8) (r : SweepResult) where
   pub expiry-facts : (tick limit : ℕ) → ExpiryGives tick limit t r → SweepFacts t r
   unfolding expiryOf numbersTo
   expiry-facts tick limit g = record {
-    told = sweep-told [] (agedSlot tick limit) t eight refl (r .answer) (r .table) (g .answer-is) (g .table-is);
+    says = sweep-says [] (agedSlot tick limit) t eight refl (r .answer) (r .table) (g .answer-is) (g .table-is);
     clear = sweep-clear [] (agedSlot tick limit) t eight refl (r .answer) (r .table) (g .answer-is) (g .table-is);
     same = sweep-same [] (agedSlot tick limit) t eight refl (r .answer) (r .table) (g .answer-is) (g .table-is);
   }
@@ -227,7 +228,7 @@ module _ (t : Table) (eight : length (t .slots) ≡ 8) (r : SweepResult) where
   release-facts lid g =
       let lid-check = check 3 (not (lidInRange lid)) ∷ [] in
       record {
-        told = sweep-told lid-check (ofLid lid) t eight refl (r .answer) (r .table) (g .answer-is) (g .table-is);
+        says = sweep-says lid-check (ofLid lid) t eight refl (r .answer) (r .table) (g .answer-is) (g .table-is);
         clear = sweep-clear lid-check (ofLid lid) t eight refl (r .answer) (r .table) (g .answer-is) (g .table-is);
         same = sweep-same lid-check (ofLid lid) t eight refl (r .answer) (r .table) (g .answer-is) (g .table-is);
       }

@@ -27,12 +27,12 @@ use Rattle.bench_joining.specs.declared.Columns.{Columns}
 use Rattle.bench_joining.specs.Columns.{columnsOf, refusedColumns, refusedWith}
 use Rattle.bench_joining.specs.Joined.{columnsAfter, LineJoined, lsduOf, LineTaken}
 use Rattle.bench_joining.proofs.LineLaws.{line-joined, line-refused}
-use Rattle.words.specs.Answer.{answerNumber, UnpackingAnswer}
-use Rattle.words.proofs.Answers.{unpacking-answer}
+use Rattle.words.specs.Answer.{answerNumber, Says}
 use Rattle.words.specs.TableWords.{tableIn}
 use Rattle.exports.specs.Fragments.{keptWords, isTaken}
 use Rattle.exports.specs.BenchLine.{isAccepted, outputLine, BenchLineExported, RoomForEach}
 use Rattle.exports.specs.Putting.{FragmentPut, LsduPut, LinePut}
+use Rattle.exports.proofs.Saying.{says}
 use Rattle.exports.proofs.Answering.{Small, fragment-small}
 
 -- ---- the text
@@ -177,14 +177,16 @@ module _ (number : ℕ) (line words store output text : List ℕ) (r : ℕ) (wor
       → (n ≡ length (answerLineText number (columns .answer) (columns .octets) (columns .dropped)))
       × (text' ≡ written text 0 (answerLineText number (columns .answer) (columns .octets) (columns .dropped))) × (n ≤ 128)
       → r ≡ answerNumber 0 0 n 0 → BenchLineExported number line words store output text r words' store' output' text'
-  unfolding BenchLineExported outputLine UnpackingAnswer
+  unfolding BenchLineExported outputLine
   line-shown columns n h put shown e =
+      let line' = outputLine number columns in
+      let number-is : r ≡ answerNumber 0 0 (length line') 0 = e ∙ ap (λ (m : ℕ). answerNumber 0 0 m 0) (shown .0) in
       rw (le-ltb (length text) 128 h) (record {
         taken = record { table = tableIn words'; columns = columns };
         joined = put .joined;
         words-are = put .words-are;
         table-back = refl;
         text-is = shown .1;
-        number-is = e ∙ ap (λ (m : ℕ). answerNumber 0 0 m 0) (shown .0);
-        told = unpacking-answer 0 0 _ 0 (omega arith) (omega arith) (omega (arith, shown .0, shown .2)) (omega arith);
+        number-is = number-is;
+        says = subst (λ (k : ℕ). Says k 0 0 (length line') 0) (sym number-is) (says 0 0 (length line') (omega arith) (omega arith) (omega (arith, shown .0, shown .2)));
       })

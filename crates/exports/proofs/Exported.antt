@@ -16,12 +16,12 @@ use Rattle.reassembly.specs.declared.FragmentResult.{FragmentResult}
 use Rattle.reassembly.specs.declared.FragmentAnswer.the-variants as answer
 use Rattle.reassembly.specs.declared.Change.{Change}
 use Rattle.reassembly.specs.Engine.{changedFor, resultOf, FragmentGives}
-use Rattle.words.specs.TableWords.{tableIn, tableAfter, UnpackingPacked, WrongLength}
-use Rattle.words.proofs.TableLaws.{unpacking-packed, wrong-length, eight-in}
-use Rattle.exports.specs.Fragments.{keptWords, isTaken, fragmentNumber, FragmentExported, isSwept, sweepNumber, SweepExported, ExpiryExported, ReleaseExported}
+use Rattle.words.specs.TableWords.{tableIn, tableAfter, UnpackingTable, OtherTableLength}
+use Rattle.words.proofs.TableLaws.{unpacking-table, other-table-length, eight-in}
+use Rattle.exports.specs.Fragments.{keptWords, isTaken, fragmentNumber, FragmentSays, FragmentExported, isSwept, sweepNumber, SweepSays, SweepExported, ExpiryExported, ReleaseExported}
 use Rattle.exports.specs.Putting.{keptTable, keptChange, FragmentPut, SweepPut}
 use Rattle.exports.proofs.Staying.{Sound, fragment-stays, expiry-stays, release-stays}
-use Rattle.exports.proofs.Answering.{fragment-told, fragment-clear, fragment-same, SweepFacts, expiry-facts, release-facts}
+use Rattle.exports.proofs.Answering.{fragment-says, fragment-clear, fragment-same, SweepFacts, expiry-facts, release-facts}
 
 -- ---- the words
 
@@ -44,12 +44,12 @@ swept-put words call r words' x e n w = record {
 
 -- a sound table's words are 41
 long-words : (words : List ℕ) → isSound (tableIn words) ≡ true → length words ≡ 41
-unfolding WrongLength
+unfolding OtherTableLength
 long-words words h = go (eqb (length words) 41) refl
   where
     go : (b : Bool) → eqb (length words) 41 ≡ b → length words ≡ 41
     go true e = eqb-true (length words) 41 e
-    go false e = absurd (true≢false (sym h ∙ wrong-length words (eqb-false (length words) 41 e)))
+    go false e = absurd (true≢false (sym h ∙ other-table-length words (eqb-false (length words) 41 e)))
 
 module _ (words : List ℕ) (after : Table) where
   kept-is : (taken : Bool) → (taken ≡ true → isSound (tableIn words) ≡ true) → keptTable taken after words ≡ keptWords taken after words
@@ -58,8 +58,8 @@ module _ (words : List ℕ) (after : Table) where
   kept-is false sound = refl
 
   back-is : (taken : Bool) → (taken ≡ true → Sound after) → (taken ≡ false → after ≡ tableIn words) → tableIn (keptWords taken after words) ≡ after
-  unfolding UnpackingPacked keptWords
-  back-is true stays same = unpacking-packed after (stays refl .eight)
+  unfolding UnpackingTable keptWords
+  back-is true stays same = unpacking-table after (stays refl .eight)
   back-is false stays same = sym (same refl)
 
 -- the table of any words has eight slots
@@ -111,7 +111,7 @@ fragment-exported lid tick lsdu words store output r words' store' output' x put
       call = call;
       gives = put .gives;
       number-is = n;
-      told = fragment-told lid tick lsdu (tableIn words) store output call store' output' (put .gives);
+      says = subst (λ (k : ℕ). FragmentSays k x) (sym n) (fragment-says lid tick lsdu (tableIn words) store output call store' output' (put .gives));
       words-are = put .words-are;
       table-back = refl;
     }
@@ -124,7 +124,7 @@ sweep-exported words call r words' facts stays put =
     let kept = put .words-are ∙ kept-is words (call .table) (isSwept (call .answer)) (facts .clear) in
     record {
       number-is = put .number-is;
-      told = facts .told;
+      says = subst (λ (k : ℕ). SweepSays k (call .answer)) (sym (put .number-is)) (facts .says);
       words-are = kept;
       table-back = ap tableIn kept ∙ back-is words (call .table) (isSwept (call .answer)) (λ h. stays (sound-in words (facts .clear h))) (facts .same);
     }

@@ -15,23 +15,23 @@ use Rattle.reassembly.specs.Runs.{Ran, fragmentReport, sweepReport}
 use Rattle.reassembly.specs.Runs as runs
 use Rattle.reassembly.specs.Demand3.{Demanded}
 use Rattle.reassembly.proofs.Theorem.{demanded}
-use Rattle.words.specs.TableWords.{tableIn, FirstState}
-use Rattle.words.proofs.TableLaws.{first-state}
-use Rattle.exports.specs.Fragments.{fragmentNumber, FragmentTold, sweepNumber, SweepTold}
+use Rattle.words.specs.TableWords.{tableIn, FirstTable}
+use Rattle.words.proofs.TableLaws.{first-table}
+use Rattle.exports.specs.Fragments.{FragmentSays, SweepSays}
 use Rattle.exports.specs.ExportedRuns.{fragmentTells, sweepTells, ExportedRan, ended, fragmented, expired, released, ExportedDemand}
 
 -- ---- what the numbers tell
 
-fragment-tells : (x : FragmentAnswer) (r : ℕ) (output : List ℕ) → r ≡ fragmentNumber x → FragmentTold x → fragmentTells r output ≡ fragmentReport (fragmentAnswer x) output
-unfolding fragmentTells fragmentNumber FragmentTold
-fragment-tells (answer.Held o d) r output e t = rw (e, t .number-back, t .kind-back, t .second-back)
-fragment-tells (answer.Whole o d) r output e t = rw (e, t .number-back, t .kind-back, t .first-back, t .second-back)
-fragment-tells (answer.Refused n) r output e t = rw (e, t .1 .number-back, t .0)
+fragment-tells : (x : FragmentAnswer) (r : ℕ) (output : List ℕ) → FragmentSays r x → fragmentTells r output ≡ fragmentReport (fragmentAnswer x) output
+unfolding fragmentTells FragmentSays
+fragment-tells (answer.Held o d) r output t = rw (t .number-is, t .kind-is, t .second-is)
+fragment-tells (answer.Whole o d) r output t = rw (t .number-is, t .kind-is, t .first-is, t .second-is)
+fragment-tells (answer.Refused n) r output t = rw (t .1 .number-is, t .0)
 
-sweep-tells : (x : SweepAnswer) (r : ℕ) → r ≡ sweepNumber x → SweepTold x → sweepTells r ≡ sweepReport (sweepAnswer x)
-unfolding sweepTells sweepNumber SweepTold
-sweep-tells (sweep.Dropped d) r e t = rw (e, t .number-back, t .first-back)
-sweep-tells (sweep.Refused n) r e t = rw (e, t .1 .number-back, t .0)
+sweep-tells : (x : SweepAnswer) (r : ℕ) → SweepSays r x → sweepTells r ≡ sweepReport (sweepAnswer x)
+unfolding sweepTells SweepSays
+sweep-tells (sweep.Dropped d) r t = rw (t .number-is, t .first-is)
+sweep-tells (sweep.Refused n) r t = rw (t .1 .number-is, t .0)
 
 -- ---- a run
 
@@ -41,18 +41,18 @@ run-of ended = runs.ended
 run-of {store = store} (fragmented {left = left} {kept} {calls} {history} r words' store' output' x rest) =
     let behind : Ran calls (x .call .table) store' history (record { table = tableIn left; store = kept }) =
     subst (λ (t : Table). Ran calls t store' history (record { table = tableIn left; store = kept })) (x .table-back) (run-of rest) in
-    rw (fragment-tells (x .call .answer) r output' (x .number-is) (x .told)) (runs.fragmented (x .call) store' output' (x .gives) behind)
+    rw (fragment-tells (x .call .answer) r output' (x .says)) (runs.fragmented (x .call) store' output' (x .gives) behind)
 run-of {store = store} (expired {left = left} {kept} {calls} {history} r words' x rest) =
     let behind : Ran calls (x .call .table) store history (record { table = tableIn left; store = kept }) =
     subst (λ (t : Table). Ran calls t store history (record { table = tableIn left; store = kept })) (x .exported .table-back) (run-of rest) in
-    rw (sweep-tells (x .call .answer) r (x .exported .number-is) (x .exported .told)) (runs.expired (x .call) (x .gives) behind)
+    rw (sweep-tells (x .call .answer) r (x .exported .says)) (runs.expired (x .call) (x .gives) behind)
 run-of {store = store} (released {left = left} {kept} {calls} {history} r words' x rest) =
     let behind : Ran calls (x .call .table) store history (record { table = tableIn left; store = kept }) =
     subst (λ (t : Table). Ran calls t store history (record { table = tableIn left; store = kept })) (x .exported .table-back) (run-of rest) in
-    rw (sweep-tells (x .call .answer) r (x .exported .number-is) (x .exported .told)) (runs.released (x .call) (x .gives) behind)
+    rw (sweep-tells (x .call .answer) r (x .exported .says)) (runs.released (x .call) (x .gives) behind)
 
 pub exported-demand : ExportedDemand
-unfolding ExportedDemand Demanded FirstState
+unfolding ExportedDemand Demanded FirstTable
 exported-demand store calls history left kept ran =
     demanded store calls history (record { table = tableIn left; store = kept })
-    (subst (λ (t : Table). Ran calls t store history (record { table = tableIn left; store = kept })) first-state (run-of ran))
+    (subst (λ (t : Table). Ran calls t store history (record { table = tableIn left; store = kept })) first-table (run-of ran))

@@ -8,6 +8,7 @@ pub mod LinkCallLaws
 pub mod MessageLaws
 pub mod PartsInside
 pub mod ReadingBack
+pub mod Saying
 pub mod Staying
 pub mod StringInside
 pub mod StringLaws

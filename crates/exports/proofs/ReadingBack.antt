@@ -3,38 +3,28 @@
 use Prim.Native.Nat.{ℕ, _<_, _≤_}
 use mathlib.Core.Path.{_≡_, refl, ap, sym, _∙_}
 use mathlib.Core.Bool.{true}
-use mathlib.Core.List.{List}
+use mathlib.Core.List.{List, [], _∷_}
 use native.Mathlib.Omega.{arith}
 use lib.ListN.{length}
 use lib.Dec.{ltb}
-use borrow.Author.Tests.{ltb-false}
-use Rattle.refusals.proofs.Tests.{by-cases}
-use Rattle.apdu_format.specs.Reading.{Value, Outcome, refused, message, readMessage}
-use Rattle.apdu_format.proofs.RoundTrip.{refused-inside, refused-known}
-use Rattle.apdu.specs.declared.records.Message.{Message}
-use Rattle.apdu.specs.declared.records.Message.the-variants as kind
-use Rattle.apdu_reading.specs.declared.front.Answer.the-variants as answer
-use Rattle.apdu_reading.specs.declared.front.Reading.{Reading}
-use Rattle.apdu_reading.specs.Answers.{outcomeOf}
+use borrow.Author.Tests.{ne-eqb, ltb-true, ltb-false}
+use Rattle.refusals.proofs.Tests.{by-test, by-cases}
+use Rattle.apdu_format.specs.Rules.{shape}
+use Rattle.apdu_format.specs.Reading.{Value, fields, string, through, Outcome, refused, message, readMessage}
+use Rattle.apdu_format.specs.Writing.{fieldsFit, fits, isValue, putValue, putFirst, put, puts, written, inRange}
+use Rattle.apdu_format.proofs.Tests.{never}
+use Rattle.apdu_format.proofs.RoundTrip.{written-read, refused-inside, refused-known}
 use Rattle.apdu_writing.specs.Answer as writing
 use Rattle.apdu_rewriting.specs.Rewriting.{answerTo, rewriteAnswer}
 use Rattle.initialisation.specs.Hearing.{Call, vst, heardOf}
 use Rattle.initialisation.proofs.Theorems.{hears}
 use Rattle.attributes.specs.Serving.{Tag, Effect, replied, toldOf, requested}
 use Rattle.attributes.proofs.ShortReplies.{requested-short}
-use Rattle.words.specs.Answer.{answerNumber, UnpackingAnswer, TakenOut}
-use Rattle.words.proofs.Answers.{unpacking-answer}
-use Rattle.exports.specs.Taken.{Says}
-use Rattle.exports.specs.Messages.{choiceOf, checkNumber, checkedNumber, writtenNumber}
+use Rattle.words.specs.Answer.{Says, SaysRefused}
+use Rattle.exports.specs.Messages.{refusalAt, choiceIn, checkNumber, writtenNumber, CheckSays, RewrittenSays, UnpackingCheck, UnpackingRewritten}
 use Rattle.exports.specs.LinkCalls.{replyNumber}
 use Rattle.exports.specs.AttributeCalls.{outcomeNumber, RequestGives}
-use Rattle.exports.proofs.MessageLaws.{checked-is}
-
-pub says : (number kind first : ℕ) → number < 256 → kind < 256 → first ≤ 512 → Says (answerNumber number kind first 0) number kind first 0
-unfolding UnpackingAnswer
-says number kind first n k f =
-    let t : TakenOut number kind first 0 = unpacking-answer number kind first 0 n k (omega arith) (omega arith) in
-    record { number-is = t .number-back; kind-is = t .kind-back; first-is = t .first-back; second-is = t .second-back }
+use Rattle.exports.proofs.Saying.{says, says-refused}
 
 -- ---- reading
 
@@ -54,42 +44,41 @@ message-short s vs end e =
     (λ t. let u : refused 21 512 ≡ message vs end = sym (too-long s t) ∙ e in let z : _≡_ {A = ℕ} 0 1 = cc in absurd (omega arith))
     (λ t. ltb-false 512 (length s) t)
 
--- check: the position of a refusal
-pub check-refused : (s : List ℕ) (k p : ℕ) → readMessage s ≡ refused k p → Says (checkNumber (readMessage s)) k 0 p 0
-unfolding checkNumber
-check-refused s k p e = rw e (says k 0 p (omega (arith, refused-known s k p e .1)) (omega arith) (position-small s k p e))
+-- the choice has four bits
+choice-small : (vs : List Value) → inRange vs ≡ true → choiceIn vs < 16
+unfolding inRange written puts through put putFirst putValue isValue fits fieldsFit shape choiceIn
+choice-small [] e = never e
+choice-small (string at l ∷ vs) e = never e
+choice-small (fields [] ∷ vs) e = never e
+choice-small (fields (n ∷ m ∷ ns) ∷ vs) e = by-cases (ltb n 16) (λ t. ltb-true n 16 t) (λ t. never (rw t at e))
+choice-small (fields (n ∷ []) ∷ vs) e = by-cases (ltb n 16) (λ t. ltb-true n 16 t) (λ t. never (rw t at e))
 
-choice-small : (m : Message) → choiceOf m ≤ 9
-choice-small (kind.ActionRequest m) = omega arith
-choice-small (kind.ActionResponse m) = omega arith
-choice-small (kind.EventRequest m) = omega arith
-choice-small (kind.EventResponse m) = omega arith
-choice-small (kind.SetRequest m) = omega arith
-choice-small (kind.SetResponse m) = omega arith
-choice-small (kind.GetRequest m) = omega arith
-choice-small (kind.GetResponse m) = omega arith
-choice-small (kind.Bst m) = omega arith
-choice-small (kind.Vst m) = omega arith
+module _ (s : List ℕ) where
+  read-refused : (k p : ℕ) → readMessage s ≡ refused k p → SaysRefused (refusalAt k p) k p
+  read-refused k p e =
+      let known = refused-known s k p e in
+      says-refused k p (ne-eqb k 0 (λ z. omega (arith, known .0))) (omega (arith, known .1)) (position-small s k p e)
 
--- and the choice of the record that reading makes
-pub check-message : (s : List ℕ) (g : Reading) (m : Message) → outcomeOf s g ≡ readMessage s → g .answer ≡ answer.Message m → Says (checkNumber (readMessage s)) 0 (choiceOf m) 0 0
-check-message s g m e a =
-    let k = choice-small m in
-    rw (sym (checked-is s g e) ∙ ap checkedNumber a) (says 0 (choiceOf m) 0 (omega arith) (omega arith) (omega arith))
+  checked-says : (o : Outcome) → readMessage s ≡ o → CheckSays (checkNumber o) o
+  unfolding checkNumber CheckSays
+  checked-says (refused k p) e = read-refused k p e
+  checked-says (message vs end) e =
+      says 0 (choiceIn vs) 0 (omega arith) (omega (arith, choice-small vs (written-read s vs end e .ranges))) (omega arith)
 
--- ---- rewriting
+  rewritten-says : (n : ℕ) (o : Outcome) → readMessage s ≡ o → RewrittenSays (writtenNumber (answerTo s n o)) (answerTo s n o)
+  unfolding answerTo writtenNumber RewrittenSays
+  rewritten-says n (refused k p) e = read-refused k p e
+  rewritten-says n (message vs end) e =
+      by-test (λ (a : writing.Answer). RewrittenSays (writtenNumber a) a) (ltb n (length s)) (λ t. says-refused 22 0 refl (omega arith) (omega arith))
+      (λ t. says 0 0 (length s) (omega arith) (omega arith) (message-short s vs end e))
 
-octets-small : (s : List ℕ) (n m : ℕ) (o : Outcome) → readMessage s ≡ o → answerTo s n o ≡ writing.octets m → m ≤ 512
-unfolding answerTo
-octets-small s n m (refused k p) e q = let z : _≡_ {A = ℕ} 0 1 = cc in absurd (omega arith)
-octets-small s n m (message vs end) e q =
-    by-cases (ltb n (length s))
-    (λ t. let u : writing.refused 22 ≡ writing.octets m = rw t at q in let z : _≡_ {A = ℕ} 0 1 = cc in absurd (omega arith))
-    (λ t. let u : writing.octets (length s) ≡ writing.octets m = rw t at q in let z : length s ≡ m = cc in let h = message-short s vs end e in omega arith)
+pub unpacking-check : UnpackingCheck
+unfolding UnpackingCheck
+unpacking-check s = checked-says s (readMessage s) refl
 
-pub rewrite-octets : (s : List ℕ) (n m : ℕ) → rewriteAnswer s n ≡ writing.octets m → Says (writtenNumber (rewriteAnswer s n)) 0 0 m 0
-unfolding rewriteAnswer writtenNumber
-rewrite-octets s n m e = rw e (says 0 0 m (omega arith) (omega arith) (octets-small s n m (readMessage s) refl e))
+pub unpacking-rewritten : UnpackingRewritten
+unfolding UnpackingRewritten rewriteAnswer
+unpacking-rewritten s room = rewritten-says s room (readMessage s) refl
 
 -- ---- a VST, a reply
 

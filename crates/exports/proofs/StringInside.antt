@@ -24,11 +24,12 @@ use Rattle.apdu.specs.Values.{valuesOf, rowsOf}
 use Rattle.apdu.specs.Sound.{containerSound, rowsSound, soundIf, entriesSound, requestSound, actionResponseSound, setRequestSound, getRequestSound, getResponseSound, bstSound, vstSound, sound}
 use Rattle.apdu.specs.Tidy.{Absent, messageTidy}
 use Rattle.apdu_reading.specs.Answers.{told, outcomeOf, tidyBy, soundBy}
+use Rattle.words.specs.Answer.{Says}
 use Rattle.exports.specs.declared.strings.StringPart.{StringPart}
-use Rattle.exports.specs.Taken.{Says}
 use Rattle.exports.specs.Strings.{credentialsIn, parameterIn, stringPart, stringNumber, stringOutput, fieldNumber, fieldOutput, EachString}
 use Rattle.exports.proofs.PartsInside.{Inside, first-there, container-inside, list-fits, RowsInside, rows-inside, no-rows, rows-if, own-rows, EntriesInside, no-entries, list-rows, list-entries, joined}
-use Rattle.exports.proofs.ReadingBack.{says, message-short}
+use Rattle.exports.proofs.Saying.{says}
+use Rattle.exports.proofs.ReadingBack.{message-short}
 
 -- ---- which part
 

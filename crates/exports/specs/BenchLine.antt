@@ -15,7 +15,7 @@ use Rattle.bench_lines.specs.Text.{answerLineText, written}
 use Rattle.bench_joining.specs.declared.Columns.{Columns}
 use Rattle.bench_joining.specs.declared.Taken.{Taken}
 use Rattle.bench_joining.specs.Joined.{LineJoined, lsduOf}
-use Rattle.words.specs.Answer.{answerNumber, TakenOut}
+use Rattle.words.specs.Answer.{answerNumber, Says}
 use Rattle.words.specs.TableWords.{tableIn}
 use Rattle.exports.specs.Fragments.{keptWords}
 
@@ -43,7 +43,7 @@ pub record LineShown (number : ℕ) (line words store output text : List ℕ) (r
   pub table-back : tableIn words' ≡ taken .table
   pub text-is : text' ≡ written text 0 (outputLine number (taken .columns))
   pub number-is : r ≡ answerNumber 0 0 (length (outputLine number (taken .columns))) 0
-  pub told : TakenOut 0 0 (length (outputLine number (taken .columns))) 0
+  pub says : Says r 0 0 (length (outputLine number (taken .columns))) 0
 
 -- too little room for the text
 pub record TextRefused (words store output text : List ℕ) (r : ℕ) (words' store' output' text' : List ℕ) : Type 0 where
@@ -59,7 +59,7 @@ BenchLineExported number line words store output text r words' store' output' te
     pick (ltb (length text) textOctets) (TextRefused words store output text r words' store' output' text')
     (LineShown number line words store output text r words' store' output' text')
 
--- ---- the law (proofs/BenchLaws.antt proves it): no line is refused for want of room
+-- ---- the promise (proofs/BenchLaws.antt proves it; `bench_line` cites it): no line is refused for want of room
 
 unfoldable pub RoomForEach : Type 0
 RoomForEach = (line : List ℕ) → readLine line lsduRoom ≡ refused 22 → ⊥

@@ -1,6 +1,6 @@
 -- Demand 3 of the exported calls (01, "Joining"): fragment, expiry and release calls in any mixture, on the same table words and store, from words that are all
 -- zero. What a call reported is read out of its answer's number alone, and demand 3 holds of that history, of the table that the words are afterwards.
--- proofs/ExportedRuns.antt proves it from the contracts.
+-- proofs/ExportedRuns.antt proves it from the contracts, and `semuryeon_fragment` cites it.
 -- Assumes nothing.
 use Prim.Native.Nat.{ℕ}
 use mathlib.Core.List.{List, [], _∷_}

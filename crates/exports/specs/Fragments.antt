@@ -17,7 +17,7 @@ use Rattle.reassembly.specs.declared.FragmentResult.{FragmentResult}
 use Rattle.reassembly.specs.declared.FragmentAnswer.{FragmentAnswer}
 use Rattle.reassembly.specs.declared.FragmentAnswer.the-variants as fragment
 use Rattle.reassembly.specs.Engine.{FragmentGives}
-use Rattle.words.specs.Answer.{answerNumber, TakenOut, RefusalTold}
+use Rattle.words.specs.Answer.{answerNumber, Says, SaysRefused}
 use Rattle.words.specs.TableWords.{tableIn, tableWords}
 
 -- ---- the table's words after a call
@@ -38,18 +38,18 @@ fragmentNumber (fragment.Held octets dropped) = answerNumber 0 1 octets dropped
 fragmentNumber (fragment.Whole octets dropped) = answerNumber 0 2 octets dropped
 fragmentNumber (fragment.Refused number) = answerNumber number 0 0 0
 
--- the number tells the answer: number (0 for none alone), kind, octets and octets dropped are taken out of it again
-unfoldable pub FragmentTold : FragmentAnswer → Type 0
-FragmentTold (fragment.Held octets dropped) = TakenOut 0 1 octets dropped
-FragmentTold (fragment.Whole octets dropped) = TakenOut 0 2 octets dropped
-FragmentTold (fragment.Refused number) = RefusalTold number
+-- what a caller takes out of a number r is the answer: kind, octets and octets dropped, or the refusal's number
+unfoldable pub FragmentSays : (r : ℕ) → FragmentAnswer → Type 0
+FragmentSays r (fragment.Held octets dropped) = Says r 0 1 octets dropped
+FragmentSays r (fragment.Whole octets dropped) = Says r 0 2 octets dropped
+FragmentSays r (fragment.Refused number) = SaysRefused r number 0
 
 -- the contract: the result r, and the table's words, the store and the output afterwards
 pub record FragmentExported (lid tick : ℕ) (lsdu words store output : List ℕ) (r : ℕ) (words' store' output' : List ℕ) : Type 0 where
   pub call : FragmentResult
   pub gives : FragmentGives lid tick lsdu (tableIn words) store output call store' output'
   pub number-is : r ≡ fragmentNumber (call .answer)
-  pub told : FragmentTold (call .answer)
+  pub says : FragmentSays r (call .answer)
   pub words-are : words' ≡ keptWords (isTaken (call .answer)) (call .table) words
   pub table-back : tableIn words' ≡ call .table
 
@@ -63,14 +63,14 @@ unfoldable pub sweepNumber : SweepAnswer → ℕ
 sweepNumber (sweep.Dropped octets) = answerNumber 0 0 octets 0
 sweepNumber (sweep.Refused number) = answerNumber number 0 0 0
 
-unfoldable pub SweepTold : SweepAnswer → Type 0
-SweepTold (sweep.Dropped octets) = TakenOut 0 0 octets 0
-SweepTold (sweep.Refused number) = RefusalTold number
+unfoldable pub SweepSays : (r : ℕ) → SweepAnswer → Type 0
+SweepSays r (sweep.Dropped octets) = Says r 0 0 octets 0
+SweepSays r (sweep.Refused number) = SaysRefused r number 0
 
 -- what both promise of a call
 pub record SweepExported (words : List ℕ) (call : SweepResult) (r : ℕ) (words' : List ℕ) : Type 0 where
   pub number-is : r ≡ sweepNumber (call .answer)
-  pub told : SweepTold (call .answer)
+  pub says : SweepSays r (call .answer)
   pub words-are : words' ≡ keptWords (isSwept (call .answer)) (call .table) words
   pub table-back : tableIn words' ≡ call .table
 

@@ -7,4 +7,3 @@ pub mod LinkCalls
 pub mod Messages
 pub mod Putting
 pub mod Strings
-pub mod Taken

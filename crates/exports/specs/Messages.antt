@@ -3,13 +3,14 @@
 -- Assumes nothing.
 use Prim.Native.Nat.{ℕ}
 use mathlib.Core.List.{List, [], _∷_}
-use Rattle.apdu_format.specs.Reading.{Value, fields, string, Outcome, refused, message}
+use Rattle.apdu_format.specs.Reading.{Value, fields, string, Outcome, refused, message, readMessage}
 use Rattle.apdu.specs.declared.records.Message.{Message}
 use Rattle.apdu.specs.declared.records.Message.the-variants as kind
 use Rattle.apdu_reading.specs.declared.front.Answer.{Answer}
 use Rattle.apdu_reading.specs.declared.front.Answer.the-variants as answer
 use Rattle.apdu_writing.specs.Answer as writing
-use Rattle.words.specs.Answer.{answerNumber}
+use Rattle.apdu_rewriting.specs.Rewriting.{rewriteAnswer}
+use Rattle.words.specs.Answer.{answerNumber, Says, SaysRefused}
 
 -- a refusal without a position, and one with it
 abbrev pub refusalNumber : ℕ → ℕ
@@ -39,6 +40,27 @@ unfoldable pub writtenNumber : writing.Answer → ℕ
 writtenNumber (writing.refused k) = refusalNumber k
 writtenNumber (writing.refusedAt k p) = refusalAt k p
 writtenNumber (writing.octets n) = answerNumber 0 0 n 0
+
+-- ---- what a caller takes out of a number r
+
+unfoldable pub CheckSays : (r : ℕ) → Outcome → Type 0
+CheckSays r (refused k p) = SaysRefused r k p
+CheckSays r (message vs end) = Says r 0 (choiceIn vs) 0 0
+
+unfoldable pub RewrittenSays : (r : ℕ) → writing.Answer → Type 0
+RewrittenSays r (writing.refused k) = SaysRefused r k 0
+RewrittenSays r (writing.refusedAt k p) = SaysRefused r k p
+RewrittenSays r (writing.octets n) = Says r 0 0 n 0
+
+-- ---- promises (proofs/ReadingBack.antt proves each; `check` cites the first, `rewrite` the second)
+
+-- what is taken out of the number is what reading answers
+unfoldable pub UnpackingCheck : Type 0
+UnpackingCheck = (s : List ℕ) → CheckSays (checkNumber (readMessage s)) (readMessage s)
+
+-- and what rewriting answers
+unfoldable pub UnpackingRewritten : Type 0
+UnpackingRewritten = (s : List ℕ) (room : ℕ) → RewrittenSays (writtenNumber (rewriteAnswer s room)) (rewriteAnswer s room)
 
 -- ---- within the crate
 

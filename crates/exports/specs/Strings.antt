@@ -21,10 +21,9 @@ use Rattle.apdu_reading.specs.declared.front.Answer.{Answer}
 use Rattle.apdu_reading.specs.declared.front.Answer.the-variants as answer
 use Rattle.apdu_reading.specs.declared.front.Reading.{Reading}
 use Rattle.apdu_reading.specs.Answers.{outcomeOf, Tidy, SoundRecord}
-use Rattle.words.specs.Answer.{answerNumber}
+use Rattle.words.specs.Answer.{answerNumber, Says}
 use Rattle.exports.specs.declared.strings.StringPart.{StringPart}
 use Rattle.exports.specs.Messages.{refusalNumber, refusalAt}
-use Rattle.exports.specs.Taken.{Says}
 
 -- ---- which part
 

@@ -3,7 +3,7 @@ ghost use mathlib.Core.Path.{_≡_};
 ghost use Prim.Native.Nat.{_≤_};
 ghost use lib.ListN.{length};
 ghost use Rattle.bench_lines.specs.Text.{answerText, answerLineText, written};
-ghost use Rattle.exports.specs.BenchLine.{textOctets, BenchLineExported};
+ghost use Rattle.exports.specs.BenchLine.{textOctets, BenchLineExported, RoomForEach};
 ghost use Rattle.exports.specs.Putting.{LsduPut, LinePut};
 use crate::fragments::joined;
 use bench_joining::Columns;
@@ -69,7 +69,8 @@ pub extern "C" fn semuryeon_bench_line(
     out: &mut [u8],
     text: &mut [u8],
 ) -> u64
-    ensures { λ r. ⌜ BenchLineExported number (now (line .entry)) (now (table .entry)) (now (store .entry)) (now (out .entry)) (now (text .entry)) r (now (table .exit)) (now (store .exit)) (now (out .exit)) (now (text .exit)) ⌝ }
+    ensures answer { λ r. ⌜ BenchLineExported number (now (line .entry)) (now (table .entry)) (now (store .entry)) (now (out .entry)) (now (text .entry)) r (now (table .exit)) (now (store .exit)) (now (out .exit)) (now (text .exit)) ⌝ }
+    ensures room { λ _. ⌜ RoomForEach ⌝ }
 {
     if text.len() < TEXT_OCTETS {
         return packed(refusals::OUTPUT_TOO_SMALL, 0, 0, 0);

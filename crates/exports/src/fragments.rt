@@ -1,5 +1,6 @@
 // Joining: the table lives in 41 words, all zero at first, and the store and output are lent.
 ghost use mathlib.Core.Path.{_≡_};
+ghost use Rattle.exports.specs.ExportedRuns.{ExportedDemand};
 ghost use Rattle.exports.specs.Fragments.{isTaken, fragmentNumber, FragmentExported, ExpiryExported, ReleaseExported};
 ghost use Rattle.exports.specs.Putting.{keptChange, FragmentPut, SweepPut};
 use reassembly::FragmentAnswer;
@@ -70,7 +71,8 @@ pub extern "C" fn semuryeon_fragment(
     store: &mut [u8],
     out: &mut [u8],
 ) -> u64
-    ensures { λ r. ⌜ FragmentExported lid tick (now (lsdu .entry)) (now (table .entry)) (now (store .entry)) (now (out .entry)) r (now (table .exit)) (now (store .exit)) (now (out .exit)) ⌝ }
+    ensures answer { λ r. ⌜ FragmentExported lid tick (now (lsdu .entry)) (now (table .entry)) (now (store .entry)) (now (out .entry)) r (now (table .exit)) (now (store .exit)) (now (out .exit)) ⌝ }
+    ensures demand { λ _. ⌜ ExportedDemand ⌝ }
 {
     fragment_number(joined(store, out, lsdu, table, lid, tick))
 }

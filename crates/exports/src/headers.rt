@@ -2,7 +2,7 @@
 ghost use mathlib.Core.Path.{_≡_};
 ghost use lib.ListN.{length};
 ghost use Rattle.header.specs.Header.{readHeader, writeHeader, outputAfter};
-ghost use Rattle.exports.specs.Headers.{sizeAndMark, readNumber, headerFrom, writtenNumber};
+ghost use Rattle.exports.specs.Headers.{sizeAndMark, readNumber, headerFrom, writtenNumber, UnpackingRead, UnpackingWritten, LargeNumber};
 use header::Header;
 use header::HeaderRead;
 use header::HeaderWritten;
@@ -18,7 +18,8 @@ fn size_and_mark(size: usize, last: bool) -> usize
 // The header at the front of `s`: kind is the PDU number, first the counter, second the header's octets, and 4 more with the last mark. Refused 5.
 #[no_mangle]
 pub extern "C" fn semuryeon_header_read(s: &[u8]) -> u64
-    ensures { λ r. ⌜ r ≡ readNumber (readHeader (now (s .entry))) ⌝ }
+    ensures answer { λ r. ⌜ r ≡ readNumber (readHeader (now (s .entry))) ⌝ }
+    ensures unpacking { λ _. ⌜ UnpackingRead ⌝ }
 {
     match header::read(s) {
         HeaderRead::Fields { header, size } => packed(
@@ -39,7 +40,9 @@ pub extern "C" fn semuryeon_header_write(
     counter: u32,
     out: &mut [u8],
 ) -> u64
-    ensures { λ r. ⌜ (r ≡ writtenNumber (writeHeader (headerFrom last number counter) (length (now (out .entry))))) × (now (out .exit) ≡ outputAfter (writeHeader (headerFrom last number counter) (length (now (out .entry)))) (headerFrom last number counter) (now (out .entry))) ⌝ }
+    ensures answer { λ r. ⌜ (r ≡ writtenNumber (writeHeader (headerFrom last number counter) (length (now (out .entry))))) × (now (out .exit) ≡ outputAfter (writeHeader (headerFrom last number counter) (length (now (out .entry)))) (headerFrom last number counter) (now (out .entry))) ⌝ }
+    ensures unpacking { λ _. ⌜ UnpackingWritten ⌝ }
+    ensures large_number { λ _. ⌜ LargeNumber ⌝ }
 {
     let fields = Header {
         last: last != 0,

@@ -4,7 +4,7 @@ ghost use lib.ListN.{length};
 ghost use Rattle.apdu_format.specs.Reading.{readMessage};
 ghost use Rattle.apdu_writing.specs.Answer as writing;
 ghost use Rattle.apdu_rewriting.specs.Rewriting.{answerOf, rewriteAnswer, rewriteOutput};
-ghost use Rattle.exports.specs.Messages.{choiceOf, checkNumber, checkedNumber, writtenNumber};
+ghost use Rattle.exports.specs.Messages.{choiceOf, checkNumber, checkedNumber, writtenNumber, UnpackingCheck, UnpackingRewritten};
 use apdu::Message;
 use apdu_reading::Answer;
 use apdu_rewriting::Rewritten;
@@ -41,7 +41,8 @@ fn checked(answer: Answer) -> u64
 // Whether `s` is a message: kind is its choice. Refused as reading refuses; first is then the position.
 #[no_mangle]
 pub extern "C" fn semuryeon_check(s: &[u8]) -> u64
-    ensures { λ r. ⌜ r ≡ checkNumber (readMessage (now (s .entry))) ⌝ }
+    ensures answer { λ r. ⌜ r ≡ checkNumber (readMessage (now (s .entry))) ⌝ }
+    ensures unpacking { λ _. ⌜ UnpackingCheck ⌝ }
 {
     let reading = apdu_reading::read(s);
     let answer = reading.answer;
@@ -72,7 +73,8 @@ fn rewritten(answer: Rewritten) -> u64
 // position; then 22.
 #[no_mangle]
 pub extern "C" fn semuryeon_rewrite(s: &[u8], out: &mut [u8]) -> u64
-    ensures { λ r. ⌜ (r ≡ writtenNumber (rewriteAnswer (now (s .entry)) (length (now (out .entry))))) × (now (out .exit) ≡ rewriteOutput (now (s .entry)) (now (out .entry))) ⌝ }
+    ensures answer { λ r. ⌜ (r ≡ writtenNumber (rewriteAnswer (now (s .entry)) (length (now (out .entry))))) × (now (out .exit) ≡ rewriteOutput (now (s .entry)) (now (out .entry))) ⌝ }
+    ensures unpacking { λ _. ⌜ UnpackingRewritten ⌝ }
 {
     let answer = apdu_rewriting::rewrite(s, out);
     rewritten(answer)

@@ -19,7 +19,7 @@ same-length-2 : tie.Need-same-length-2
 same-length-2 c = search needs
 
 returns : tie.Need-returns
-returns c = rw (← c .before .before .before .before .before .before .before .before .directory-in .ensures) (record { call = c .before .before .before .before .before .request-in .result; answered = c .before .before .before .before .before .request-in .ensures; is = c .told .ensures })
+returns c = rw (← c .before .before .before .before .before .before .before .before .directory-in .ensures .0) (record { call = c .before .before .before .before .before .request-in .result; answered = c .before .before .before .before .before .request-in .ensures; is = c .told .ensures })
 
 pub semuryeon-request-spec : {M : Type 1} → statement M
 semuryeon-request-spec =

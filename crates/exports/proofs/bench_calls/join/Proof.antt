@@ -24,7 +24,7 @@ same-length-3 c = search needs
 
 returns : tie.Need-returns
 returns c =
-    lsdu-put _ _ _ _ _ _ _ _ _ _ _ (c .before .table-in .result) (c .before .before .before .before .before .before .before .before .before .joined .ensures) (c .before .table-in .ensures) (c .shown .ensures)
+    lsdu-put _ _ _ _ _ _ _ _ _ _ _ (c .before .table-in .result) (c .before .before .before .before .before .before .before .before .before .joined .ensures) (c .before .table-in .ensures .0) (c .shown .ensures)
 
 pub join-spec : {M : Type 1} → statement M
 join-spec =

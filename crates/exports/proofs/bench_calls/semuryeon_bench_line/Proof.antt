@@ -1,7 +1,7 @@
 -- `exports::bench_calls::semuryeon_bench_line` meets its contract: a line joined by the words' table, and shown. Assumes nothing.
 use denote.Ref.{now}
 use mathlib.Core.Path.{refl}
-use Rattle.exports.proofs.BenchLaws.{answer-fits, text-refused, line-shown}
+use Rattle.exports.proofs.BenchLaws.{answer-fits, text-refused, line-shown, room-for-each}
 use borrow.Author.Needs.{needs}
 use Rattle.exports.proofs.bench_calls.semuryeon_bench_line.Statement.{statement}
 use Rattle.exports.proofs.bench_calls.semuryeon_bench_line.Tie as tie
@@ -11,7 +11,7 @@ packed-requires c κs = search needs
 
 returns : tie.Need-returns
 returns c =
-    text-refused _ _ _ _ _ (now (c .before .before .before .before .before .before .before .args .text)) _ _ _ _ _ (c .before .if1 .taken) (c .packed .ensures) refl refl refl refl
+    (text-refused _ _ _ _ _ (now (c .before .before .before .before .before .before .before .args .text)) _ _ _ _ _ (c .before .if1 .taken) (c .packed .ensures .0) refl refl refl refl, room-for-each)
 
 take-requires : tie.Need-take-requires
 take-requires c κs = search needs
@@ -41,7 +41,7 @@ returns-2 c =
     let c11 = c .before .before .before .before .before .before .before .before .before .before .before in
     let c15 = c11 .before .before .before .before in
     let start = c15 .before .before .before .before .before .before in
-    line-shown (start .args .number) _ _ _ _ (now (start .args .text)) _ _ _ _ _ _ _ (c15 .if1 .left) (c11 .take .ensures) (c .before .before .before .show .ensures) (c .packed2 .ensures)
+    (line-shown (start .args .number) _ _ _ _ (now (start .args .text)) _ _ _ _ _ _ _ (c15 .if1 .left) (c11 .take .ensures) (c .before .before .before .show .ensures) (c .packed2 .ensures .0), room-for-each)
 
 pub semuryeon-bench-line-spec : {M : Type 1} → statement M
 semuryeon-bench-line-spec =

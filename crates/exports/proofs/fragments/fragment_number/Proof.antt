@@ -25,15 +25,15 @@ packed-requires-3 c κs = search needs
 
 returns : tie.Need-returns
 unfolding fragmentNumber
-returns c = c .packed .ensures ∙ sym (ap fragmentNumber (c .before .before .answer .given .1))
+returns c = c .packed .ensures .0 ∙ sym (ap fragmentNumber (c .before .before .answer .given .1))
 
 returns-2 : tie.Need-returns-2
 unfolding fragmentNumber
-returns-2 c = c .packed2 .ensures ∙ sym (ap fragmentNumber (c .before .before .answer2 .given .1))
+returns-2 c = c .packed2 .ensures .0 ∙ sym (ap fragmentNumber (c .before .before .answer2 .given .1))
 
 returns-3 : tie.Need-returns-3
 unfolding fragmentNumber
-returns-3 c = c .packed3 .ensures ∙ sym (ap fragmentNumber (c .before .before .answer3 .given .1))
+returns-3 c = c .packed3 .ensures .0 ∙ sym (ap fragmentNumber (c .before .before .answer3 .given .1))
 
 pub fragment-number-spec : {M : Type 1} → statement M
 fragment-number-spec =

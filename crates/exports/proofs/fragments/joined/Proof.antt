@@ -29,7 +29,7 @@ returns : tie.Need-returns
 returns c =
     let c10 = c .before .before .before .before .before .before .before .before .before .before in
     let c13 = c10 .before .before .before in
-    fragment-joined _ _ _ _ _ _ _ _ _ (c13 .table-in .result) (c10 .fragment-change .result) _ (c13 .table-in .ensures) (c10 .fragment-change .ensures)
+    fragment-joined _ _ _ _ _ _ _ _ _ (c13 .table-in .result) (c10 .fragment-change .result) _ (c13 .table-in .ensures .0) (c10 .fragment-change .ensures)
     (c .before .before .before .before .taken .ensures) (c .before .before .keep-change .ensures)
 
 pub joined-spec : {M : Type 1} → statement M

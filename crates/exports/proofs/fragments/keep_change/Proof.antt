@@ -25,7 +25,7 @@ unfolding changeAfter
 returns-2 c =
     let c4 = c .before .before .before .before in
     let start = c4 .before .before in
-    put-some (now (start .args .table)) (tableOf (set (tableIn (now (start .args .table)) .slots) (start .args .i) (start .args .slot))) (start .args .accepted) _ (not-f _ (c4 .if1 .left)) (c .before .before .put-change .ensures)
+    put-some (now (start .args .table)) (tableOf (set (tableIn (now (start .args .table)) .slots) (start .args .i) (start .args .slot))) (start .args .accepted) _ (not-f _ (c4 .if1 .left)) (c .before .before .put-change .ensures .0)
 
 pub keep-change-spec : {M : Type 1} → statement M
 keep-change-spec = tie.close (tie.spec returns put-change-requires same-length returns-2)

@@ -20,7 +20,7 @@ returns : tie.Need-returns
 returns c =
     let c4 = c .before .before .before .before in
     let start = c4 .before .before .before .before in
-    expiry-exported (start .args .table .now) _ _ (c4 .before .table-in .result) (c4 .expire .result) (c4 .before .table-in .ensures) (c .before .before .swept .ensures) _ _ (c4 .expire .ensures)
+    expiry-exported (start .args .table .now) _ _ (c4 .before .table-in .result) (c4 .expire .result) (c4 .before .table-in .ensures .0) (c .before .before .swept .ensures) _ _ (c4 .expire .ensures)
 
 pub semuryeon-expire-spec : {M : Type 1} → statement M
 semuryeon-expire-spec =

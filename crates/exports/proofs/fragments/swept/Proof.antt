@@ -31,13 +31,13 @@ unfolding isSwept sweepNumber keptTable
 returns c =
     let c6 = c .before .before .before .before .before .before in
     let start = c6 .before .before .before .before in
-    swept-put (now (start .args .table)) (start .args .result) _ _ _ (c6 .answer .given .1) (c .packed .ensures) (c .before .before .before .put-table .ensures)
+    swept-put (now (start .args .table)) (start .args .result) _ _ _ (c6 .answer .given .1) (c .packed .ensures .0) (c .before .before .before .put-table .ensures .0)
 
 returns-2 : tie.Need-returns-2
 unfolding isSwept sweepNumber keptTable
 returns-2 c =
     let start = c .before .before .before .before .before .before in
-    swept-put (now (start .args .table)) (start .args .result) _ _ _ (c .before .before .answer2 .given .1) (c .packed2 .ensures) refl
+    swept-put (now (start .args .table)) (start .args .result) _ _ _ (c .before .before .answer2 .given .1) (c .packed2 .ensures .0) refl
 
 pub swept-spec : {M : Type 1} → statement M
 swept-spec =

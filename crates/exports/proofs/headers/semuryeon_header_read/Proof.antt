@@ -3,6 +3,7 @@ use mathlib.Core.Path.{sym, ap, _∙_}
 use Rattle.header.specs.Header.{readAnswer}
 use Rattle.words.specs.Answer.{answerNumber}
 use Rattle.exports.specs.Headers.{readNumber}
+use Rattle.exports.proofs.HeaderLaws.{unpacking-read}
 use borrow.Author.Needs.{needs}
 use Rattle.exports.proofs.headers.semuryeon_header_read.Statement.{statement}
 use Rattle.exports.proofs.headers.semuryeon_header_read.Tie as tie
@@ -33,13 +34,13 @@ unfolding readAnswer readNumber
 returns c =
     let c6 = c .before .before .before .before .before .before in
     let read = sym (ap readAnswer (c .before .before .before .before .header .given .1)) ∙ c6 .read .ensures in
-    c .packed .ensures ∙ ap (answerNumber _ _ _) (c .before .size-and-mark .ensures) ∙ ap readNumber read
+    (c .packed .ensures .0 ∙ ap (answerNumber _ _ _) (c .before .size-and-mark .ensures) ∙ ap readNumber read, unpacking-read)
 
 returns-2 : tie.Need-returns-2
 unfolding readAnswer readNumber
 returns-2 c =
     let read = sym (ap readAnswer (c .before .before .number .given .1)) ∙ c .before .before .before .before .read .ensures in
-    c .packed2 .ensures ∙ ap readNumber read
+    (c .packed2 .ensures .0 ∙ ap readNumber read, unpacking-read)
 
 pub semuryeon-header-read-spec : {M : Type 1} → statement M
 semuryeon-header-read-spec =

@@ -6,7 +6,7 @@ use lib.Dec.{eqb}
 use Rattle.header.specs.declared.HeaderWritten.{HeaderWritten}
 use Rattle.header.specs.Header.{writeAnswer}
 use Rattle.exports.specs.Headers.{headerFrom, writtenNumber}
-use Rattle.exports.proofs.HeaderLaws.{written-by}
+use Rattle.exports.proofs.HeaderLaws.{written-by, unpacking-written, large-number}
 use borrow.Author.Needs.{needs}
 use Rattle.exports.proofs.headers.semuryeon_header_write.Statement.{statement}
 use Rattle.exports.proofs.headers.semuryeon_header_write.Tie as tie
@@ -39,8 +39,10 @@ returns c =
     let start = c6 .before .before .before .before in
     let header : _ ≡ headerFrom (start .args .last) (start .args .number) (start .args .counter) =
     λ i. record { last = not (eqb (start .args .last) 0); number = c6 .before .before .narrow .ensures i; counter = start .args .counter } in
-    written-by (headerFrom (start .args .last) (start .args .number) (start .args .counter)) _ (now (start .args .out)) _ _ (c6 .write .result) header (c6 .write .ensures)
-    (c .packed .ensures ∙ sym (ap (λ (x : HeaderWritten). writtenNumber (writeAnswer x)) (c .before .before .n .given .1)))
+    let told = c .packed .ensures .0 ∙ sym (ap (λ (x : HeaderWritten). writtenNumber (writeAnswer x)) (c .before .before .n .given .1)) in
+    let written =
+    written-by (headerFrom (start .args .last) (start .args .number) (start .args .counter)) _ (now (start .args .out)) _ _ (c6 .write .result) header (c6 .write .ensures) told in
+    (written, (unpacking-written, large-number))
 
 same-length-2 : tie.Need-same-length-2
 same-length-2 c = search needs
@@ -52,8 +54,10 @@ returns-2 c =
     let start = c6 .before .before .before .before in
     let header : _ ≡ headerFrom (start .args .last) (start .args .number) (start .args .counter) =
     λ i. record { last = not (eqb (start .args .last) 0); number = c6 .before .before .narrow .ensures i; counter = start .args .counter } in
-    written-by (headerFrom (start .args .last) (start .args .number) (start .args .counter)) _ (now (start .args .out)) _ _ (c6 .write .result) header (c6 .write .ensures)
-    (c .packed2 .ensures ∙ sym (ap (λ (x : HeaderWritten). writtenNumber (writeAnswer x)) (c .before .before .k .given .1)))
+    let told = c .packed2 .ensures .0 ∙ sym (ap (λ (x : HeaderWritten). writtenNumber (writeAnswer x)) (c .before .before .k .given .1)) in
+    let written =
+    written-by (headerFrom (start .args .last) (start .args .number) (start .args .counter)) _ (now (start .args .out)) _ _ (c6 .write .result) header (c6 .write .ensures) told in
+    (written, (unpacking-written, large-number))
 
 pub semuryeon-header-write-spec : {M : Type 1} → statement M
 semuryeon-header-write-spec =

@@ -25,11 +25,11 @@ same-length c = search needs
 
 returns : tie.Need-returns
 unfolding changeNumber changeWords
-returns c = rw (c .before .before .before .before .before .enum-told .given .1) (c .packed .ensures, c .before .before .before .put-link .ensures)
+returns c = rw (c .before .before .before .before .before .enum-told .given .1) (c .packed .ensures .0, c .before .before .before .put-link .ensures .0)
 
 returns-2 : tie.Need-returns-2
 unfolding changeNumber changeWords
-returns-2 c = rw (c .before .before .answer .given .1) (c .packed2 .ensures, refl)
+returns-2 c = rw (c .before .before .answer .given .1) (c .packed2 .ensures .0, refl)
 
 pub changed-spec : {M : Type 1} → statement M
 changed-spec =

@@ -23,7 +23,7 @@ same-length-2 : tie.Need-same-length-2
 same-length-2 c = search needs
 
 returns : tie.Need-returns
-returns c = rw (← c .before .before .before .before .before .before .before .before .before .link-in .ensures, ← c .before .before .before .before .before .before .before .before .elements-in .ensures) (heard-is _ _ (c .before .before .before .before .before .before .hear-bst .ensures .0) (c .before .before .replied .ensures))
+returns c = rw (← c .before .before .before .before .before .before .before .before .before .link-in .ensures .0, ← c .before .before .before .before .before .before .before .before .elements-in .ensures .0) (heard-is _ _ (c .before .before .before .before .before .before .hear-bst .ensures .0) (c .before .before .replied .ensures))
 
 pub hear-spec : {M : Type 1} → statement M
 hear-spec =

@@ -34,18 +34,18 @@ same-length c = search needs
 
 returns : tie.Need-returns
 unfolding replyNumber replyWords
-returns c = rw (c .before .before .before .before .before .enum-told .given .1) (c .packed .ensures, c .before .before .before .put-link .ensures)
+returns c = rw (c .before .before .before .before .before .enum-told .given .1) (c .packed .ensures .0, c .before .before .before .put-link .ensures .0)
 
 same-length-2 : tie.Need-same-length-2
 same-length-2 c = search needs
 
 returns-2 : tie.Need-returns-2
 unfolding replyNumber replyWords
-returns-2 c = rw (c .before .before .before .before .before .before .answer .given .1) (c .packed2 .ensures, c .before .before .before .put-link2 .ensures)
+returns-2 c = rw (c .before .before .before .before .before .before .answer .given .1) (c .packed2 .ensures .0, c .before .before .before .put-link2 .ensures .0)
 
 returns-3 : tie.Need-returns-3
 unfolding replyNumber replyWords
-returns-3 c = rw (c .before .before .answer2 .given .1) (c .packed3 .ensures, refl)
+returns-3 c = rw (c .before .before .answer2 .given .1) (c .packed3 .ensures .0, refl)
 
 pub replied-spec : {M : Type 1} → statement M
 replied-spec =

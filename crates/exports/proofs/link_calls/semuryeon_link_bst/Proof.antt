@@ -32,10 +32,10 @@ hear-requires : tie.Need-hear-requires
 hear-requires c κs = search needs
 
 returns : tie.Need-returns
-returns c = bst-refused _ _ _ (c .before .before .before .before .before .read .ensures) _ _ (c .before .before .answer .given .1) (c .packed .ensures)
+returns c = bst-refused _ _ _ (c .before .before .before .before .before .read .ensures) _ _ (c .before .before .answer .given .1) (c .packed .ensures .0)
 
 returns-2 : tie.Need-returns-2
-returns-2 c = bst-other _ _ _ (c .before .before .before .before .before .before .before .before .read .ensures) _ _ (c .before .before .before .before .before .answer2 .given .1) (c .before .before .before .offer-of .ensures) (c .before .enum-told .given .1) (c .packed2 .ensures)
+returns-2 c = bst-other _ _ _ (c .before .before .before .before .before .before .before .before .read .ensures) _ _ (c .before .before .before .before .before .answer2 .given .1) (c .before .before .before .offer-of .ensures) (c .before .enum-told .given .1) (c .packed2 .ensures .0)
 
 same-length : tie.Need-same-length
 same-length c = search needs

@@ -17,7 +17,7 @@ same-length : tie.Need-same-length
 same-length c = search needs
 
 returns : tie.Need-returns
-returns c = rw (← c .before .before .before .before .before .link-in .ensures) (changes _ _ (c .before .before .before .before .tick .ensures .answer-is) (c .before .before .before .before .tick .ensures .link-is) (c .before .before .changed .ensures))
+returns c = rw (← c .before .before .before .before .before .link-in .ensures .0) (changes _ _ (c .before .before .before .before .tick .ensures .answer-is) (c .before .before .before .before .tick .ensures .link-is) (c .before .before .changed .ensures))
 
 pub semuryeon-link-tick-spec : {M : Type 1} → statement M
 semuryeon-link-tick-spec =

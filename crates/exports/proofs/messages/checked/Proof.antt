@@ -22,10 +22,10 @@ packed-requires-2 : tie.Need-packed-requires-2
 packed-requires-2 c κs = search needs
 
 returns : tie.Need-returns
-returns c = rw (c .before .before .before .answer .given .1) (c .packed .ensures ∙ ap (λ (k : ℕ). answerNumber 0 k 0 0) (c .before .choice-of .ensures))
+returns c = rw (c .before .before .before .answer .given .1) (c .packed .ensures .0 ∙ ap (λ (k : ℕ). answerNumber 0 k 0 0) (c .before .choice-of .ensures))
 
 returns-2 : tie.Need-returns-2
-returns-2 c = rw (c .before .before .answer2 .given .1) (c .packed2 .ensures)
+returns-2 c = rw (c .before .before .answer2 .given .1) (c .packed2 .ensures .0)
 
 pub checked-spec : {M : Type 1} → statement M
 checked-spec =

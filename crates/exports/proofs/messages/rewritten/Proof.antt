@@ -19,7 +19,7 @@ written-requires c κs = search needs
 
 returns : tie.Need-returns
 unfolding writtenNumber answerOf
-returns c = rw (c .before .before .answer .given .1) (c .packed .ensures)
+returns c = rw (c .before .before .answer .given .1) (c .packed .ensures .0)
 
 returns-2 : tie.Need-returns-2
 unfolding writtenNumber answerOf

@@ -31,19 +31,19 @@ packed-requires-4 c κs = search needs
 
 returns : tie.Need-returns
 unfolding writtenNumber answerOf
-returns c = rw (c .before .enum-told .given .1) (c .packed .ensures)
+returns c = rw (c .before .enum-told .given .1) (c .packed .ensures .0)
 
 returns-2 : tie.Need-returns-2
 unfolding writtenNumber answerOf
-returns-2 c = rw (c .before .before .w .given .1) (c .packed2 .ensures)
+returns-2 c = rw (c .before .before .w .given .1) (c .packed2 .ensures .0)
 
 returns-3 : tie.Need-returns-3
 unfolding writtenNumber answerOf
-returns-3 c = rw (c .before .enum-told2 .given .1) (c .packed3 .ensures)
+returns-3 c = rw (c .before .enum-told2 .given .1) (c .packed3 .ensures .0)
 
 returns-4 : tie.Need-returns-4
 unfolding writtenNumber answerOf
-returns-4 c = rw (c .before .before .w2 .given .1) (c .packed4 .ensures)
+returns-4 c = rw (c .before .before .w2 .given .1) (c .packed4 .ensures .0)
 
 pub written-spec : {M : Type 1} → statement M
 written-spec =

@@ -23,7 +23,7 @@ give-requires : tie.Need-give-requires
 give-requires c κs = search needs
 
 returns : tie.Need-returns
-returns c = string-refused _ _ _ _ (c .before .before .before .before .before .read .ensures) _ _ (c .before .before .answer .given .1) (c .packed .ensures)
+returns c = string-refused _ _ _ _ (c .before .before .before .before .before .read .ensures) _ _ (c .before .before .answer .given .1) (c .packed .ensures .0)
 
 same-length : tie.Need-same-length
 same-length c = search needs
