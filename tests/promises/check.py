@@ -121,13 +121,14 @@ def proved_names(tree):
 
 
 def held_by_nothing(tree, rows):
-    """The statements that no row names, nor a statement of a row."""
+    """The statements that no row and no clause for the list names, nor a definition that these name."""
+    keys = [row.key for row in rows] + [key for _, clause in clauses_for_the_list(tree) for key in clause.keys]
     held = set()
-    for row in rows:
+    for key in keys:
         try:
-            held |= tree.reached([row.key] + (clause_of(tree, row)[1].keys if row.is_cited() else [])).keys()
+            held |= tree.reached([key]).keys()
         except Unreadable:
-            held.add(row.statement)  # told with the row
+            held.add(':'.join(key))  # told with its row
     proved = proved_names(tree)
     free = []
     for file in tree.names_of('*/specs/**/*.antt'):
