@@ -123,12 +123,7 @@ def proved_names(tree):
 def held_by_nothing(tree, rows):
     """The statements that no row and no clause for the list names, nor a definition that these name."""
     keys = [row.key for row in rows] + [key for _, clause in clauses_for_the_list(tree) for key in clause.keys]
-    held = set()
-    for key in keys:
-        try:
-            held |= tree.reached([key]).keys()
-        except Unreadable:
-            held.add(':'.join(key))  # told with its row
+    held = tree.reached(keys, gone=set())  # what is gone is told with its row
     proved = proved_names(tree)
     free = []
     for file in tree.names_of('*/specs/**/*.antt'):

@@ -277,11 +277,18 @@ class Tree:
     def front(self, crate):
         return 'lib' if (self.crates / crate / 'src' / 'lib.rt').is_file() else 'main'
 
-    def reached(self, keys):
-        """Every definition that is reached from these keys, by full name."""
+    def reached(self, keys, gone=None):
+        """Every definition that is reached from these keys, by full name; what is missing is put into `gone`, if that is given."""
         found, waiting = {}, list(keys)
         while waiting:
-            definition = self.definition(waiting.pop())
+            key = waiting.pop()
+            try:
+                definition = self.definition(key)
+            except Unreadable:
+                if gone is None:
+                    raise
+                gone.add(':'.join(key))
+                continue
             if definition and definition.full not in found:
                 found[definition.full] = definition
                 waiting += definition.resolved()[1]
