@@ -13,8 +13,7 @@ use Rattle.bits.specs.Bits.{Octets}
 use Rattle.header.specs.declared.Header.{Header}
 use Rattle.header.specs.declared.HeaderWritten.{HeaderWritten}
 use Rattle.header.specs.Header.{Fields, bitOf, endBit, lengthFor, headerOf, headerLength, readRefusal, readHeader, writeRefusal, writeHeader, writeAnswer, outputAfter}
-use Rattle.header.specs.RoundTrip.{WritingRead}
-use Rattle.header.proofs.RoundTrip.{writing-read}
+use Rattle.header.proofs.WritingBack.{again}
 use Rattle.words.specs.Answer.{answerNumber, SaysRefused, UnpackingAnswer}
 use Rattle.words.specs.Word.{narrowTo}
 use Rattle.words.proofs.Answers.{unpacking-answer}
@@ -42,9 +41,9 @@ mark-small true = omega arith
 mark-small false = omega arith
 
 header-says : (s : List ℕ) (f : Fields) → Octets s → readHeader s ≡ accepted f → HeaderSays (readNumber (accepted f)) f
-unfolding UnpackingAnswer WritingRead readHeader readNumber
+unfolding UnpackingAnswer readHeader readNumber
 header-says s f octets e =
-    let range = writing-read s f octets e .inRange in
+    let range = again s f octets e .inRange in
     let size : f .size ≤ 3 = omega (arith, size-is s (readRefusal s) f e, length-small s) in
     let mark = mark-small (f .header .last) in
     let t =

@@ -10,8 +10,8 @@ use lib.Dec.{ltb}
 use lib.ListN.{length, length-append, drop}
 use lib.Seq.{sets, sets-eq, drop-at}
 use borrow.Author.Tests.{lt-ltb, le-ltb, ltb-true, ltb-false}
-use Rattle.refusals.proofs.Tests.{by-cases}
-use Rattle.refusals.specs.Check.{firstOf, Answer, decided}
+use Rattle.refusals.proofs.Tests.{by-cases, first-none, decided-accepted}
+use Rattle.refusals.specs.Check.{firstOf, Answer, accepted, decided}
 use Rattle.bits.specs.Bits.{digits, number, octets}
 use Rattle.bits.proofs.Laws.{number-front, number-digits, length-digits}
 use Rattle.header.specs.Header.{bitOf, firstBits, nextBits, headerBits, headerOctets, lengthFor, writeRefusal, writeHeader, writeAnswer, outputAfter}
@@ -167,3 +167,16 @@ module _ (h : Header) (out : List ℕ) where
             simp (← is, le-ltb _ _ n, le-ltb _ _ k, le-ltb _ _ l),
             rw (← f, ← e) s,
           )
+
+-- a header that is accepted: no check holds
+pub record InRange (h : Header) : Type 0 where
+  pub number : h .number ≤ 15
+  pub counter : h .counter ≤ 65535
+
+pub accepted-is : (h : Header) (n k : ℕ) → writeHeader h n ≡ accepted k → InRange h × (lengthFor (h .counter) ≡ k)
+unfolding writeHeader writeRefusal
+accepted-is h n k e =
+    let d = decided-accepted (writeRefusal h n) (lengthFor (h .counter)) k e in
+    let a = first-none 22 (ltb 15 (h .number)) _ (d .0) in
+    let b = first-none 22 (ltb 65535 (h .counter)) _ (a .1) in
+    (record { number = ltb-false _ _ (a .0); counter = ltb-false _ _ (b .0) }, d .1)

@@ -5,6 +5,7 @@ ghost use Prim.Native.Nat.{_+_, _*_, _%_, _<_, _≤_};
 ghost use lib.Dec.{eqb};
 ghost use lib.ListN.{length, getD};
 ghost use Rattle.header.specs.Header.{endBit, headerLength, counterIn, lengthFor, readHeader, readAnswer, bitOf, writeHeader, writeAnswer, outputAfter};
+ghost use Rattle.header.specs.RoundTrip.{ReadingWritten, ReadingExact, WritingRead};
 
 pub struct Header {
     // 01's last mark: this fragment ends its message.
@@ -97,7 +98,9 @@ fn third_ends(s: &[u8], n: usize) -> bool
 
 // The header at the front of `s`; 5 where it is cut short, its third octet's bit 0 is 1, or it is longer than its counter needs.
 pub fn read(s: &[u8]) -> HeaderRead
-    ensures { λ r. ⌜ readAnswer r ≡ readHeader (now (s .entry)) ⌝ }
+    ensures answer { λ r. ⌜ readAnswer r ≡ readHeader (now (s .entry)) ⌝ }
+    ensures written { λ _. ⌜ ReadingWritten ⌝ }
+    ensures exact { λ _. ⌜ ReadingExact ⌝ }
 {
     let size = length_of(s);
     if s.len() < size {
@@ -143,7 +146,8 @@ fn next_octet(counter: u32, end: u32) -> u8
 
 // Writes the header to the front of `out`; 23 for a field out of range, then 22 where `out` is too short.
 pub fn write(h: Header, out: &mut [u8]) -> HeaderWritten
-    ensures { λ r. ⌜ (writeAnswer r ≡ writeHeader h (length (now (out .entry)))) × (now (out .exit) ≡ outputAfter (writeAnswer r) h (now (out .entry))) ⌝ }
+    ensures answer { λ r. ⌜ (writeAnswer r ≡ writeHeader h (length (now (out .entry)))) × (now (out .exit) ≡ outputAfter (writeAnswer r) h (now (out .entry))) ⌝ }
+    ensures again { λ _. ⌜ WritingRead ⌝ }
 {
     let last = h.last;
     let number = h.number;

@@ -1,23 +1,25 @@
--- `header::write` meets its contract: its tests are the checks, and its octets the figure's. Assumes nothing.
+-- `header::write` meets its contract: its tests are the checks, and its octets the figure's; that what was read is written as it was is a law of the definitions.
+-- Assumes nothing.
 use native.Mathlib.Omega.{arith}
 use mathlib.Core.List.{[], _∷_}
 use lib.ListN.{length-set}
 use Rattle.header.proofs.Writing.{number-over, counter-over, no-room, for-one, for-two, for-three, octets-one, octets-two, octets-three, put}
+use Rattle.header.proofs.RoundTrip.{writing-read}
 use borrow.Author.Needs.{needs}
 use Rattle.header.proofs.write.Statement.{statement}
 use Rattle.header.proofs.write.Tie as tie
 
 returns : tie.Need-returns
-returns c = number-over _ _ (omega arith)
+returns c = (number-over _ _ (omega arith), writing-read)
 
 returns-2 : tie.Need-returns-2
-returns-2 c = counter-over _ _ (omega arith) (omega arith)
+returns-2 c = (counter-over _ _ (omega arith) (omega arith), writing-read)
 
 length-for-requires : tie.Need-length-for-requires
 length-for-requires c κs = search needs
 
 returns-3 : tie.Need-returns-3
-returns-3 c = no-room _ _ (omega arith) (omega arith) (c .before .length-for .ensures) (omega arith)
+returns-3 c = (no-room _ _ (omega arith) (omega arith) (c .before .length-for .ensures) (omega arith), writing-read)
 
 first-octet-requires : tie.Need-first-octet-requires
 first-octet-requires c κs = search needs
@@ -32,7 +34,7 @@ returns-4 : tie.Need-returns-4
 returns-4 c =
     let d = c .before .before .before in
     let l = d .length-for .ensures in
-    put _ _ (omega arith) (omega arith) l (_ ∷ []) (omega arith) (omega arith) (octets-one _ (omega arith) (for-one _ l (c .before .if4 .taken)) (c .first-octet .ensures))
+    (put _ _ (omega arith) (omega arith) l (_ ∷ []) (omega arith) (omega arith) (octets-one _ (omega arith) (for-one _ l (c .before .if4 .taken)) (c .first-octet .ensures)), writing-read)
 
 first-octet-requires-2 : tie.Need-first-octet-requires-2
 first-octet-requires-2 c κs = search needs
@@ -54,7 +56,7 @@ returns-5 c =
     let d = c .before .before .before .before .before in
     let l = d .length-for .ensures in
     let r = for-two _ l (c .before .before .if5 .taken) in
-    put _ _ (omega arith) (omega arith) l (_ ∷ _ ∷ []) (omega arith) (omega arith) (octets-two _ (omega arith) (r .0) (r .1) (c .before .first-octet2 .ensures) (c .next-octet .ensures))
+    (put _ _ (omega arith) (omega arith) l (_ ∷ _ ∷ []) (omega arith) (omega arith) (octets-two _ (omega arith) (r .0) (r .1) (c .before .first-octet2 .ensures) (c .next-octet .ensures)), writing-read)
 
 first-octet-requires-3 : tie.Need-first-octet-requires-3
 first-octet-requires-3 c κs = search needs
@@ -88,7 +90,7 @@ returns-6 c =
     let d = c .before .before .before in
     let l = d .before .before .before .length-for .ensures in
     let r = for-three _ l (d .before .if4 .left) (d .if5 .left) in
-    put _ _ (omega arith) (omega arith) l (_ ∷ _ ∷ _ ∷ []) (omega arith) (omega arith) (octets-three _ (omega arith) (r .0) (c .before .before .first-octet3 .ensures) (c .before .next-octet2 .ensures) (c .next-octet3 .ensures))
+    (put _ _ (omega arith) (omega arith) l (_ ∷ _ ∷ _ ∷ []) (omega arith) (omega arith) (octets-three _ (omega arith) (r .0) (c .before .before .first-octet3 .ensures) (c .before .next-octet2 .ensures) (c .next-octet3 .ensures)), writing-read)
 
 pub write-spec : {M : Type 1} → statement M
 write-spec =

@@ -18,7 +18,7 @@ sub-t7 : tie.Need-sub-t7
 unfolding readAnswer
 sub-t7 c =
     let s = c .before .before .before .before .before .args .lsdu .now in
-    let read = sym (ap readAnswer (c .before .header .given .1)) ∙ c .before .before .before .read .ensures in
+    let read = sym (ap readAnswer (c .before .header .given .1)) ∙ c .before .before .before .read .ensures .0 in
     fields-in s _ _ read
 
 enum-told : tie.Need-enum-told
@@ -28,7 +28,7 @@ returns : tie.Need-returns
 unfolding readAnswer headedBy
 returns c =
     let s = c .before .before .before .before .before .args .lsdu .now in
-    let read = sym (ap readAnswer (c .before .header .given .1)) ∙ c .before .before .before .read .ensures in
+    let read = sym (ap readAnswer (c .before .header .given .1)) ∙ c .before .before .before .read .ensures .0 in
     let fields = fields-are s _ _ read in
     λ i. record { number = fields i .number; payload = fields i .octets }
 
@@ -36,7 +36,7 @@ returns-2 : tie.Need-returns-2
 unfolding readAnswer headedBy
 returns-2 c =
     let s = c .before .before .before .before .args .lsdu .now in
-    let read = sym (ap readAnswer (c .enum-told .given .1)) ∙ c .before .before .read .ensures in
+    let read = sym (ap readAnswer (c .enum-told .given .1)) ∙ c .before .before .read .ensures .0 in
     let fields = fields-none s _ read in
     λ i. record { number = fields i .number; payload = fields i .octets }
 

@@ -33,13 +33,13 @@ returns : tie.Need-returns
 unfolding readAnswer readNumber
 returns c =
     let c6 = c .before .before .before .before .before .before in
-    let read = sym (ap readAnswer (c .before .before .before .before .header .given .1)) ∙ c6 .read .ensures in
+    let read = sym (ap readAnswer (c .before .before .before .before .header .given .1)) ∙ c6 .read .ensures .0 in
     (c .packed .ensures .0 ∙ ap (answerNumber _ _ _) (c .before .size-and-mark .ensures) ∙ ap readNumber read, unpacking-read)
 
 returns-2 : tie.Need-returns-2
 unfolding readAnswer readNumber
 returns-2 c =
-    let read = sym (ap readAnswer (c .before .before .number .given .1)) ∙ c .before .before .before .before .read .ensures in
+    let read = sym (ap readAnswer (c .before .before .number .given .1)) ∙ c .before .before .before .before .read .ensures .0 in
     (c .packed2 .ensures .0 ∙ ap readNumber read, unpacking-read)
 
 pub semuryeon-header-read-spec : {M : Type 1} → statement M

@@ -41,7 +41,7 @@ returns c =
     λ i. record { last = not (eqb (start .args .last) 0); number = c6 .before .before .narrow .ensures i; counter = start .args .counter } in
     let told = c .packed .ensures .0 ∙ sym (ap (λ (x : HeaderWritten). writtenNumber (writeAnswer x)) (c .before .before .n .given .1)) in
     let written =
-    written-by (headerFrom (start .args .last) (start .args .number) (start .args .counter)) _ (now (start .args .out)) _ _ (c6 .write .result) header (c6 .write .ensures) told in
+    written-by (headerFrom (start .args .last) (start .args .number) (start .args .counter)) _ (now (start .args .out)) _ _ (c6 .write .result) header (c6 .write .ensures .0) told in
     (written, (unpacking-written, large-number))
 
 same-length-2 : tie.Need-same-length-2
@@ -56,7 +56,7 @@ returns-2 c =
     λ i. record { last = not (eqb (start .args .last) 0); number = c6 .before .before .narrow .ensures i; counter = start .args .counter } in
     let told = c .packed2 .ensures .0 ∙ sym (ap (λ (x : HeaderWritten). writtenNumber (writeAnswer x)) (c .before .before .k .given .1)) in
     let written =
-    written-by (headerFrom (start .args .last) (start .args .number) (start .args .counter)) _ (now (start .args .out)) _ _ (c6 .write .result) header (c6 .write .ensures) told in
+    written-by (headerFrom (start .args .last) (start .args .number) (start .args .counter)) _ (now (start .args .out)) _ _ (c6 .write .result) header (c6 .write .ensures .0) told in
     (written, (unpacking-written, large-number))
 
 pub semuryeon-header-write-spec : {M : Type 1} → statement M

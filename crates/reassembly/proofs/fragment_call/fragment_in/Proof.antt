@@ -16,7 +16,7 @@ sub-t7 : tie.Need-sub-t7
 unfolding readAnswer
 sub-t7 c =
     let s = c .before .before .before .before .before .args .lsdu .now in
-    let read = sym (ap readAnswer (c .before .header .given .1)) ∙ c .before .before .before .read .ensures in
+    let read = sym (ap readAnswer (c .before .header .given .1)) ∙ c .before .before .before .read .ensures .0 in
     fields-in s _ _ read
 
 enum-told : tie.Need-enum-told
@@ -26,14 +26,14 @@ returns : tie.Need-returns
 unfolding readAnswer
 returns c =
     let s = c .before .before .before .before .before .args .lsdu .now in
-    let read = sym (ap readAnswer (c .before .header .given .1)) ∙ c .before .before .before .read .ensures in
+    let read = sym (ap readAnswer (c .before .header .given .1)) ∙ c .before .before .before .read .ensures .0 in
     fields-are s _ _ read
 
 returns-2 : tie.Need-returns-2
 unfolding readAnswer
 returns-2 c =
     let s = c .before .before .before .before .args .lsdu .now in
-    let read = sym (ap readAnswer (c .enum-told .given .1)) ∙ c .before .before .read .ensures in
+    let read = sym (ap readAnswer (c .enum-told .given .1)) ∙ c .before .before .read .ensures .0 in
     fields-none s _ read
 
 pub fragment-in-spec : {M : Type 1} → statement M
