@@ -219,7 +219,7 @@ def imported(scope, token):
     path, name = found
     inside = CRATE_PATH.match(path)
     if not inside:
-        return f'{path}.{name}', None
+        return f'{path}.{name}', ('elsewhere', path) if path.startswith('Rattle·') else None
     crate, rest = inside.groups()
     parts = rest.split('.')
     if parts[0] != 'declared':
@@ -250,6 +250,8 @@ class Tree:
 
     def definition(self, key):
         """The definition that a key leads to, or None for a path into a library of the toolchain."""
+        if key[0] == 'elsewhere':
+            raise Unreadable(f'a definition names {key[1]}, which is not in specs/')
         if key[0] == 'path':
             parts = key[2].split('::')
             source = self.home_of(key[1], parts, lambda source, name: name in source.definitions)
