@@ -29,17 +29,17 @@ front-within s =
 -- ---- what is read can be written
 
 -- a message at the front of s: its values are in range, its bits are those of s up to its end
-pub record FrontWritten (s : List ℕ) (vs : List Value) (end : ℕ) : Type 0 where
-  pub ranges : inRange vs ≡ true
-  pub long : length (encode vs) ≡ end
-  pub within : end ≤ 8 * length s
-  pub is : bits s ≡ encode vs ++ drop end (bits s)
+record FrontWritten (s : List ℕ) (vs : List Value) (end : ℕ) : Type 0 where
+  ranges : inRange vs ≡ true
+  long : length (encode vs) ≡ end
+  within : end ≤ 8 * length s
+  is : bits s ≡ encode vs ++ drop end (bits s)
 
 abbrev FrontTold : List ℕ → Outcome → Type 0
 FrontTold s (refused k p) = Unit {0}
 FrontTold s (message vs end) = FrontWritten s vs end
 
-pub front-written : (s : List ℕ) → FrontTold s (readFront s)
+front-written : (s : List ℕ) → FrontTold s (readFront s)
 unfolding readFront runs outcome inRange encode written none
 front-written s =
     let d = run (bits s) levels (choice ∷ []) start in

@@ -1,4 +1,4 @@
--- The two ways of `rewrite`: reading refuses, or what was read is written back.
+-- The two ways of `rewrite`: reading refuses, or what was read is written back; and the round trips beside them.
 -- Assumes nothing.
 use Prim.Native.Nat.{ℕ}
 use mathlib.Core.Path.{_≡_, sym, _∙_}
@@ -10,6 +10,8 @@ use Rattle.refusals.proofs.Tests.{by-cases}
 use Rattle.bits.specs.Bits.{Octets}
 use Rattle.apdu_format.specs.Reading.{message, readMessage}
 use Rattle.apdu_format.specs.Reading.{refused as unread}
+use Rattle.apdu_format.specs.RoundTrip.{ReadingEncoded, EncodingRead, OneEncoding, EncodingsAccepted, LevelsSuffice}
+use Rattle.apdu_format.proofs.RoundTrip.{reading-encoded, encoding-read, one-encoding, encodings-accepted, levels-suffice}
 use Rattle.apdu.specs.declared.records.Message.{Message}
 use Rattle.apdu.specs.Values.{valuesOf}
 use Rattle.apdu_reading.specs.declared.front.Answer.the-variants as answer
@@ -21,8 +23,8 @@ use Rattle.apdu_writing.specs.Answer as writing
 use Rattle.apdu_rewriting.specs.declared.Rewritten.{Rewritten}
 use Rattle.apdu_rewriting.specs.declared.Rewritten.the-variants as rewritten
 use Rattle.apdu_rewriting.specs.Rewriting.{answerOf, answerTo, rewriteAnswer, outputFor, rewriteOutput}
-use Rattle.apdu_rewriting.specs.RoundTrip.{WrittenBack}
-use Rattle.apdu_rewriting.proofs.RoundTrip.{back}
+use Rattle.apdu_rewriting.specs.RoundTrip.{WrittenBack, WritingRead, ReadingWritten, ReadingExact}
+use Rattle.apdu_rewriting.proofs.RoundTrip.{back, writing-read, reading-written, reading-exact}
 
 -- what `rewrite` ensures
 abbrev Rewrites : List ℕ → List ℕ → Rewritten → List ℕ → Type 0
@@ -41,7 +43,13 @@ module _ (s out : List ℕ) (r : Reading) (e : (outcomeOf s r ≡ readMessage s)
   unfolding answerOf rewriteAnswer answerTo rewriteOutput outputFor outcomeOf told
   writes-back o m h w f =
       let u : readMessage s ≡ message (valuesOf s m (r .lists .entries) (r .lists .rows)) (r .end) = sym (e .0) ∙ rw h in
-      let b : WrittenBack s m (r .lists .entries) (r .lists .rows) = back s r m o (record { reads = record { outcome = e .0; sound = e .2 }; is = h }) in
+      let b : WrittenBack s m (r .lists .entries) (r .lists .rows) = back s r m o (record { outcome = e .0; sound = e .2 }) h in
       by-cases (ltb (length out) (length s))
-      (λ t. let k = ltb-true (length out) (length s) t in (f .0 ∙ b .small (length out) k ∙ rw (u, t), f .1 ∙ b .untouched out k ∙ rw (u, t)))
-      (λ t. let k = ltb-false (length out) (length s) t in (f .0 ∙ b .written (length out) k ∙ rw (u, t), f .1 ∙ b .output out k ∙ rw (u, t)))
+      (λ t. let x = b .small out (ltb-true (length out) (length s) t) in (f .0 ∙ x .answer ∙ rw (u, t), f .1 ∙ x .output ∙ rw (u, t)))
+      (λ t. let x = b .written out (ltb-false (length out) (length s) t) in (f .0 ∙ x .answer ∙ rw (u, t), f .1 ∙ x .output ∙ rw (u, t)))
+
+-- and what the contract cites besides, one clause within the other
+pub with-round-trips : {P : Type 0} → P
+    → P × (WritingRead × (ReadingWritten × (ReadingExact × (EncodingRead × (ReadingEncoded × (OneEncoding × (EncodingsAccepted × LevelsSuffice)))))))
+with-round-trips p =
+    (p, (writing-read, (reading-written, (reading-exact, (encoding-read, (reading-encoded, (one-encoding, (encodings-accepted, levels-suffice))))))))

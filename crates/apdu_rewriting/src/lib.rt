@@ -1,7 +1,9 @@
 // Reading a message and writing what was read: the same octets come back.
 ghost use mathlib.Core.Path.{_≡_};
 ghost use lib.ListN.{length};
+ghost use Rattle.apdu_format.specs.RoundTrip.{ReadingEncoded, EncodingRead, OneEncoding, EncodingsAccepted, LevelsSuffice};
 ghost use Rattle.apdu_rewriting.specs.Rewriting.{answerOf, rewriteAnswer, rewriteOutput};
+ghost use Rattle.apdu_rewriting.specs.RoundTrip.{WritingRead, ReadingWritten, ReadingExact};
 use apdu_reading::Answer;
 use apdu_reading::read;
 use apdu_writing::ApduWritten;
@@ -15,9 +17,17 @@ pub enum Rewritten {
 }
 
 // Reads the message that `s` is and writes it to the front of `out`: reading's refusal, else 22 where `out` is shorter than `s`, else the octets of `s`.
-// Every other octet of `out` stays, and a refusal changes nothing.
+// Every other octet of `out` stays, and a refusal changes nothing. Beside its answer stand demand 2's round trips, about every record and about its values.
 pub fn rewrite(s: &[u8], out: &mut [u8]) -> Rewritten
-    ensures { λ r. ⌜ (answerOf r ≡ rewriteAnswer (now (s .entry)) (length (now (out .entry)))) × (now (out .exit) ≡ rewriteOutput (now (s .entry)) (now (out .entry))) ⌝ }
+    ensures answer { λ r. ⌜ (answerOf r ≡ rewriteAnswer (now (s .entry)) (length (now (out .entry)))) × (now (out .exit) ≡ rewriteOutput (now (s .entry)) (now (out .entry))) ⌝ }
+    ensures writing_read { λ _. ⌜ WritingRead ⌝ }
+    ensures reading_written { λ _. ⌜ ReadingWritten ⌝ }
+    ensures reading_exact { λ _. ⌜ ReadingExact ⌝ }
+    ensures encoding_read { λ _. ⌜ EncodingRead ⌝ }
+    ensures reading_encoded { λ _. ⌜ ReadingEncoded ⌝ }
+    ensures one_encoding { λ _. ⌜ OneEncoding ⌝ }
+    ensures encodings_accepted { λ _. ⌜ EncodingsAccepted ⌝ }
+    ensures levels_suffice { λ _. ⌜ LevelsSuffice ⌝ }
 {
     let r = read(s);
     let answer = r.answer;

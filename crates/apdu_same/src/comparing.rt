@@ -1,6 +1,6 @@
 // Comparing two messages.
 ghost use mathlib.Core.Path.{_≡_};
-ghost use Rattle.apdu_same.specs.Comparison.{answerOf, sameAnswer};
+ghost use Rattle.apdu_same.specs.Comparison.{answerOf, sameAnswer, SameExactly, SameRecords};
 use crate::message::agree;
 use apdu::Entry;
 use apdu::Message;
@@ -25,7 +25,9 @@ pub fn same(
     b_entries: [Entry; 32],
     b_lent: &[u8],
 ) -> Compared
-    ensures { λ r. ⌜ answerOf r ≡ sameAnswer (now («a_lent» .entry)) a «a_entries» «a_rows» (now («b_lent» .entry)) b «b_entries» «b_rows» ⌝ }
+    ensures answer { λ r. ⌜ answerOf r ≡ sameAnswer (now («a_lent» .entry)) a «a_entries» «a_rows» (now («b_lent» .entry)) b «b_entries» «b_rows» ⌝ }
+    ensures exactly { λ _. ⌜ SameExactly ⌝ }
+    ensures records { λ _. ⌜ SameRecords ⌝ }
 {
     if !apdu_writing::well_formed(a, a_rows, a_entries, a_lent) {
         return Compared::RecordOutOfRange;

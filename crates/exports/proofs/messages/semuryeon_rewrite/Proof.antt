@@ -17,7 +17,7 @@ same-length c = search needs
 
 returns : tie.Need-returns
 returns c =
-    let e = c .before .before .before .rewrite .ensures in
+    let e = c .before .before .before .rewrite .ensures .0 in
     ((c .rewritten .ensures ∙ ap writtenNumber (e .0), e .1), unpacking-rewritten)
 
 pub semuryeon-rewrite-spec : {M : Type 1} → statement M
