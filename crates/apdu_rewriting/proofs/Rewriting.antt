@@ -10,7 +10,8 @@ use Rattle.refusals.proofs.Tests.{by-cases}
 use Rattle.bits.specs.Bits.{Octets}
 use Rattle.apdu_format.specs.Reading.{message, readMessage}
 use Rattle.apdu_format.specs.Reading.{refused as unread}
-use Rattle.apdu_format.specs.RoundTrip.{ReadingEncoded, EncodingRead, OneEncoding, EncodingsAccepted, LevelsSuffice}
+use Rattle.apdu_format.specs.RoundTrip.{ReadingEncoded, EncodingRead, OneEncoding, SameEncoded, EncodingsAccepted, LevelsSuffice}
+use Rattle.apdu_format.proofs.Unplaced.{same-encoded}
 use Rattle.apdu_format.proofs.RoundTrip.{reading-encoded, encoding-read, one-encoding, encodings-accepted, levels-suffice}
 use Rattle.apdu.specs.declared.records.Message.{Message}
 use Rattle.apdu.specs.Values.{valuesOf}
@@ -48,8 +49,12 @@ module _ (s out : List ℕ) (r : Reading) (e : (outcomeOf s r ≡ readMessage s)
       (λ t. let x = b .small out (ltb-true (length out) (length s) t) in (f .0 ∙ x .answer ∙ rw (u, t), f .1 ∙ x .output ∙ rw (u, t)))
       (λ t. let x = b .written out (ltb-false (length out) (length s) t) in (f .0 ∙ x .answer ∙ rw (u, t), f .1 ∙ x .output ∙ rw (u, t)))
 
--- and what the contract cites besides, one clause within the other
-pub with-round-trips : {P : Type 0} → P
-    → P × (WritingRead × (ReadingWritten × (ReadingExact × (EncodingRead × (ReadingEncoded × (OneEncoding × (EncodingsAccepted × LevelsSuffice)))))))
-with-round-trips p =
-    (p, (writing-read, (reading-written, (reading-exact, (encoding-read, (reading-encoded, (one-encoding, (encodings-accepted, levels-suffice))))))))
+-- and what the contract cites besides: each clause holds the next beside it
+abbrev Cited : Type 0
+Cited = WritingRead × (ReadingWritten × (ReadingExact × (EncodingRead × (ReadingEncoded × (OneEncoding × (SameEncoded × (EncodingsAccepted × LevelsSuffice)))))))
+
+cited : Cited
+cited = (writing-read, (reading-written, (reading-exact, (encoding-read, (reading-encoded, (one-encoding, (same-encoded, (encodings-accepted, levels-suffice))))))))
+
+pub with-round-trips : {P : Type 0} → P → P × Cited
+with-round-trips p = (p, cited)

@@ -1,7 +1,7 @@
 // Reading a message and writing what was read: the same octets come back.
 ghost use mathlib.Core.Path.{_≡_};
 ghost use lib.ListN.{length};
-ghost use Rattle.apdu_format.specs.RoundTrip.{ReadingEncoded, EncodingRead, OneEncoding, EncodingsAccepted, LevelsSuffice};
+ghost use Rattle.apdu_format.specs.RoundTrip.{ReadingEncoded, EncodingRead, OneEncoding, SameEncoded, EncodingsAccepted, LevelsSuffice};
 ghost use Rattle.apdu_rewriting.specs.Rewriting.{answerOf, rewriteAnswer, rewriteOutput};
 ghost use Rattle.apdu_rewriting.specs.RoundTrip.{WritingRead, ReadingWritten, ReadingExact};
 use apdu_reading::Answer;
@@ -26,6 +26,7 @@ pub fn rewrite(s: &[u8], out: &mut [u8]) -> Rewritten
     ensures encoding_read { λ _. ⌜ EncodingRead ⌝ }
     ensures reading_encoded { λ _. ⌜ ReadingEncoded ⌝ }
     ensures one_encoding { λ _. ⌜ OneEncoding ⌝ }
+    ensures same_encoded { λ _. ⌜ SameEncoded ⌝ }
     ensures encodings_accepted { λ _. ⌜ EncodingsAccepted ⌝ }
     ensures levels_suffice { λ _. ⌜ LevelsSuffice ⌝ }
 {
