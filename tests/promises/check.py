@@ -61,9 +61,20 @@ def digest_of(tree, row):
     if row.is_cited():
         _, clause = clause_of(tree, row)
         return tree.digest(clause.text, clause.keys)
-    if row.holder.startswith(MUST_FAIL) and not (tree.crates / row.holder[len(MUST_FAIL):]).is_file():
-        raise Unreadable(f'there is no edit {row.holder[len(MUST_FAIL):]}')
+    check_edit(tree, row)
     return tree.digest(row.holder, [row.key])
+
+
+def check_edit(tree, row):
+    """The must-fail edit that a row names is there, and edits a file with a definition that the statement names."""
+    name = row.holder[len(MUST_FAIL):]
+    path = tree.crates / name
+    if not path.is_file():
+        raise Unreadable(f'there is no edit {name}')
+    file = re.search(r'^file: (\S+)$', path.read_text(), re.MULTILINE)
+    edited = f'{name.split("/")[0]}/{file.group(1)}' if file else ''
+    if edited not in {full.rsplit(':', 1)[0] for full in tree.reached([row.key])}:
+        raise Unreadable(f'{name} edits nothing that it names')
 
 
 def fault_of_row(tree, row):
