@@ -73,8 +73,8 @@ wrong 'another name imported' crates/reassembly/specs/Demand3.antt 's/lib.Dec.{e
 wrong 'field of a struct' crates/slots/src/lib.rt 's/pub busy: u32/pub busy: u64/' "$demand: $otherwise"
 wrong 'field of a record' crates/reassembly/specs/Demand3.antt '/pub is-sound :/d' "$demand: $otherwise"
 wrong 'statement that nothing holds' crates/slots/specs/Slots.antt '$a unfoldable pub Kept : Type 0\nKept = Table' 'slots/specs/Slots.antt:Kept is a statement that nothing holds'
-wrong 'contract of a call that no library calls' crates/apdu_same/src/comparing.rt 's/    ensures { λ r\. .*/    ensures { λ r. ⌜ r ≡ r ⌝ }/' \
-    'clause "ensures" of apdu_same::same does not name it'
+wrong 'contract of a call that no library calls' crates/bench_joining/src/joining.rt 's/⌜ LineTaken .* ⌝/⌜ r ≡ r ⌝/' \
+    'clause "ensures" of bench_joining::take_line does not name it'
 wrong 'row twice' $list '/| reassembly::fragment demand |/p' 'the row stands twice'
 
 # what must not be noticed
