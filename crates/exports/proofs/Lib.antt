@@ -1,10 +1,13 @@
 pub mod Answering
 pub mod AttributeCallLaws
+pub mod AttributeNumbers
 pub mod BenchLaws
 pub mod Exported
 pub mod ExportedRuns
 pub mod HeaderLaws
 pub mod LinkCallLaws
+pub mod LinkKept
+pub mod LinkNumbers
 pub mod MessageLaws
 pub mod PartsInside
 pub mod ReadingBack

@@ -1,7 +1,8 @@
--- What the calls put into an answer is taken out of it again: positions and octets are at most 512, and no refusal of reading has a number above 21.
+-- What `check` and `rewrite` put into an answer is taken out of it again: positions and octets are at most 512, and no refusal of reading has a number
+-- above 21.
 -- Assumes nothing.
 use Prim.Native.Nat.{ℕ, _<_, _≤_}
-use mathlib.Core.Path.{_≡_, refl, ap, sym, _∙_}
+use mathlib.Core.Path.{_≡_, refl, sym, _∙_}
 use mathlib.Core.Bool.{true}
 use mathlib.Core.List.{List, [], _∷_}
 use native.Mathlib.Omega.{arith}
@@ -16,14 +17,8 @@ use Rattle.apdu_format.proofs.Tests.{never}
 use Rattle.apdu_format.proofs.RoundTrip.{written-read, refused-inside, refused-known}
 use Rattle.apdu_writing.specs.Answer as writing
 use Rattle.apdu_rewriting.specs.Rewriting.{answerTo, rewriteAnswer}
-use Rattle.initialisation.specs.Hearing.{Call, vst, heardOf}
-use Rattle.initialisation.proofs.Theorems.{hears}
-use Rattle.attributes.specs.Serving.{Tag, Effect, replied, toldOf, requested}
-use Rattle.attributes.proofs.ShortReplies.{requested-short}
-use Rattle.words.specs.Answer.{Says, SaysRefused}
+use Rattle.words.specs.Answer.{SaysRefused}
 use Rattle.exports.specs.Messages.{refusalAt, choiceIn, checkNumber, writtenNumber, CheckSays, RewrittenSays, UnpackingCheck, UnpackingRewritten}
-use Rattle.exports.specs.LinkCalls.{replyNumber}
-use Rattle.exports.specs.AttributeCalls.{outcomeNumber, RequestGives}
 use Rattle.exports.proofs.Saying.{says, says-refused}
 
 -- ---- reading
@@ -54,7 +49,7 @@ choice-small (fields (n ∷ m ∷ ns) ∷ vs) e = by-cases (ltb n 16) (λ t. ltb
 choice-small (fields (n ∷ []) ∷ vs) e = by-cases (ltb n 16) (λ t. ltb-true n 16 t) (λ t. never (rw t at e))
 
 module _ (s : List ℕ) where
-  read-refused : (k p : ℕ) → readMessage s ≡ refused k p → SaysRefused (refusalAt k p) k p
+  pub read-refused : (k p : ℕ) → readMessage s ≡ refused k p → SaysRefused (refusalAt k p) k p
   read-refused k p e =
       let known = refused-known s k p e in
       says-refused k p (ne-eqb k 0 (λ z. omega (arith, known .0))) (omega (arith, known .1)) (position-small s k p e)
@@ -79,17 +74,3 @@ unpacking-check s = checked-says s (readMessage s) refl
 pub unpacking-rewritten : UnpackingRewritten
 unfolding UnpackingRewritten rewriteAnswer
 unpacking-rewritten s room = rewritten-says s room (readMessage s) refl
-
--- ---- a VST, a reply
-
-pub vst-octets : (c : Call) (n : ℕ) → heardOf c .reply ≡ vst n → Says (replyNumber (heardOf c .reply)) 0 1 n 0
-unfolding replyNumber
-vst-octets c n e = rw e (says 0 1 n (omega arith) (omega arith) (hears c .sent n e .short))
-
-pub reply-octets : {tag : Tag} {s out : List ℕ} {r : ℕ} {w out' : List ℕ} (g : RequestGives tag s out r w out') (n : ℕ)
-    → toldOf (g .call .outcome) ≡ replied n → Says r 0 1 n 0
-unfolding outcomeNumber
-reply-octets {tag} {s} {out} g n e =
-    let a = g .answered in
-    let o : requested tag s (a .reading) out .outcome ≡ replied n = sym (ap (λ (x : Effect). x .outcome) (a .is)) ∙ e in
-    rw (g .is, e) (says 0 1 n (omega arith) (omega arith) (requested-short tag s out (a .reading) n o))

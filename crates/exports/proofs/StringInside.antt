@@ -1,17 +1,18 @@
 -- Every string of what reading makes lies inside the message, whichever its number. So 22 is given just where the output is shorter, else the string's
--- octets stand at the output's front. Assumes nothing.
+-- octets stand at the output's front; and what is taken out of the number is what is answered. Assumes nothing.
 use Prim.Native.Nat.{ℕ, _+_, _-_, _<_, _≤_}
 use mathlib.Core.Bool.{true, false, _&&_}
-use mathlib.Core.Path.{_≡_, ap, sym, _∙_}
+use mathlib.Core.Path.{_≡_, refl, ap, sym, subst}
 use mathlib.Core.List.{List, [], _∷_, _++_}
 use native.Mathlib.Omega.{arith}
 use lib.Dec.{eqb, leb, ltb}
 use lib.ListN.{length, take, drop}
 use borrow.Author.Tests.{le-leb, lt-leb}
+use Rattle.refusals.specs.Check.{pick}
 use Rattle.refusals.proofs.Tests.{by-test}
 use Rattle.bits.specs.Strings.{isInside, stringAt, copyFits, copyString}
 use Rattle.bits.proofs.Strings.{inside-le}
-use Rattle.apdu_format.specs.Reading.{readMessage, message}
+use Rattle.apdu_format.specs.Reading.{readMessage}
 use Rattle.apdu_format.proofs.Tests.{both, never}
 use Rattle.apdu.specs.declared.lists.Row.{Row}
 use Rattle.apdu.specs.declared.lists.Entry.{Entry}
@@ -20,16 +21,18 @@ use Rattle.apdu.specs.declared.records.Bst.{Bst}
 use Rattle.apdu.specs.declared.records.Request.{Request}
 use Rattle.apdu.specs.declared.records.Message.{Message}
 use Rattle.apdu.specs.declared.records.Message.the-variants as kind
-use Rattle.apdu.specs.Values.{valuesOf, rowsOf}
+use Rattle.apdu.specs.Values.{rowsOf}
 use Rattle.apdu.specs.Sound.{containerSound, rowsSound, soundIf, entriesSound, requestSound, actionResponseSound, setRequestSound, getRequestSound, getResponseSound, bstSound, vstSound, sound}
 use Rattle.apdu.specs.Tidy.{Absent, messageTidy}
+use Rattle.apdu_reading.specs.declared.front.Answer.{Answer}
+use Rattle.apdu_reading.specs.declared.front.Answer.the-variants as answer
 use Rattle.apdu_reading.specs.Answers.{told, outcomeOf, tidyBy, soundBy}
-use Rattle.words.specs.Answer.{Says}
+use Rattle.words.specs.Answer.{Says, SaysRefused}
 use Rattle.exports.specs.declared.strings.StringPart.{StringPart}
-use Rattle.exports.specs.Strings.{credentialsIn, parameterIn, stringPart, stringNumber, stringOutput, fieldNumber, fieldOutput, EachString}
+use Rattle.exports.specs.Strings.{credentialsIn, parameterIn, stringPart, stringNumber, stringOutput, fieldNumber, fieldOutput, StringTold, FieldTold, EachString}
 use Rattle.exports.proofs.PartsInside.{Inside, first-there, container-inside, list-fits, RowsInside, rows-inside, no-rows, rows-if, own-rows, EntriesInside, no-entries, list-rows, list-entries, joined}
-use Rattle.exports.proofs.Saying.{says}
-use Rattle.exports.proofs.ReadingBack.{message-short}
+use Rattle.exports.proofs.Saying.{says, says-refused}
+use Rattle.exports.proofs.ReadingBack.{message-short, read-refused}
 
 -- ---- which part
 
@@ -117,39 +120,50 @@ string-inside octets m l field e t =
     by-test (Inside octets) (ltb field 34) (λ b. i .0 (field - 2))
     (λ b. by-test (Inside octets) (ltb field 66) (λ b. i .1 (field - 34)) (λ b h. never h))))
 
--- ---- what 22 means
+-- ---- what is answered
 
-module _ (s : List ℕ) (p : StringPart) (out : List ℕ) (here : p .present ≡ true) (inside : isInside (length s) (p .start) (p .length) ≡ true)
-    (short : length s ≤ 512) where
-  output-small : length out < p .length → Says (stringNumber s p out) 22 0 0 0 × (stringOutput s p out ≡ out)
-  unfolding stringNumber stringOutput copyString copyFits
-  output-small h =
-      let f : leb (0 + p .length) (length out) ≡ false = lt-leb (0 + p .length) (length out) (omega arith) in
-      (rw (here, inside, f) (says 22 0 0 (omega arith) (omega arith) (omega arith)), rw (here, inside, f))
+module _ (s : List ℕ) (p : StringPart) (out : List ℕ) where
+  -- no such string
+  absent : p .present ≡ false → Says (stringNumber s p out) 0 0 0 0 × (stringOutput s p out ≡ out)
+  unfolding stringNumber stringOutput
+  absent none = (rw none (says 0 0 0 (omega arith) (omega arith) (omega arith)), rw none)
 
-  output-large : p .length ≤ length out
-      → Says (stringNumber s p out) 0 1 (p .length) 0 × (stringOutput s p out ≡ stringAt s (p .start) (p .length) ++ drop (p .length) out)
-  unfolding stringNumber stringOutput copyString copyFits
-  output-large h =
-      let z : 0 + p .length ≡ p .length = omega arith in
-      let f : leb (0 + p .length) (length out) ≡ true = le-leb (0 + p .length) (length out) (omega arith) in
-      let n : p .length ≤ 512 = omega (arith, inside-le (length s) (p .start) (p .length) inside) in (
-        rw (here, inside, f) (says 0 1 (p .length) (omega arith) (omega arith) n),
-        rw (here, inside, f) (ap (λ (k : ℕ). stringAt s (p .start) (p .length) ++ drop k out) z),
-      )
+  module _ (here : p .present ≡ true) (inside : isInside (length s) (p .start) (p .length) ≡ true) (short : length s ≤ 512) where
+    output-small : length out < p .length → SaysRefused (stringNumber s p out) 22 0 × (stringOutput s p out ≡ out)
+    unfolding stringNumber stringOutput copyString copyFits
+    output-small h =
+        let f : leb (0 + p .length) (length out) ≡ false = lt-leb (0 + p .length) (length out) (omega arith) in
+        (rw (here, inside, f) (says-refused 22 0 refl (omega arith) (omega arith)), rw (here, inside, f))
+
+    output-large : p .length ≤ length out
+        → Says (stringNumber s p out) 0 1 (p .length) 0 × (stringOutput s p out ≡ stringAt s (p .start) (p .length) ++ drop (p .length) out)
+    unfolding stringNumber stringOutput copyString copyFits
+    output-large h =
+        let z : 0 + p .length ≡ p .length = omega arith in
+        let f : leb (0 + p .length) (length out) ≡ true = le-leb (0 + p .length) (length out) (omega arith) in
+        let n : p .length ≤ 512 = omega (arith, inside-le (length s) (p .start) (p .length) inside) in (
+          rw (here, inside, f) (says 0 1 (p .length) (omega arith) (omega arith) n),
+          rw (here, inside, f) (ap (λ (k : ℕ). stringAt s (p .start) (p .length) ++ drop k out) z),
+        )
+
+  part-told : Inside (length s) p → length s ≤ 512
+      → pick (p .present) (StringTold s p out (stringNumber s p out) (stringOutput s p out)) (Says (stringNumber s p out) 0 0 0 0 × (stringOutput s p out ≡ out))
+  part-told inside short =
+      by-test (λ (T : Type 0). T) (p .present)
+      (λ here. record { small = output-small here (inside here) short; large = output-large here (inside here) short }) absent
+
+module _ (s : List ℕ) (l : Lists) (end field : ℕ) (out : List ℕ) where
+  field-told : (a : Answer) → told s l end a ≡ readMessage s → tidyBy l end a → soundBy (length s) l a
+      → FieldTold s l field out a (fieldNumber s l field out a) (fieldOutput s l field out a)
+  unfolding told tidyBy soundBy fieldNumber fieldOutput FieldTold
+  field-told (answer.Refused k p) e t h = (read-refused s k p (sym e), refl)
+  field-told (answer.Message m) e t h = part-told s (stringPart m l field) out (string-inside (length s) m l field h t) (message-short s _ _ (sym e))
 
 pub each-string : EachString
-unfolding EachString outcomeOf told tidyBy soundBy fieldNumber fieldOutput
-each-string s field out r out' g m a here =
+unfolding EachString outcomeOf
+each-string s field out r out' g =
     let l = g .reading .lists in
-    let e : sound (length s) m (l .entries) (l .rows) ≡ true = rw a at (g .sound .is) in
-    let t : messageTidy m (l .entries) (l .rows) = rw a at (g .tidy .is) in
-    let o : message (valuesOf s m (l .entries) (l .rows)) (g .reading .end) ≡ readMessage s = rw a at (g .read) in
-    let short = message-short s _ _ (sym o) in
-    let inside = string-inside (length s) m l field e t here in
-    let n : r ≡ stringNumber s (stringPart m l field) out = rw a at (g .is) in
-    let w : out' ≡ stringOutput s (stringPart m l field) out = rw a at (g .output-is) in
-    record {
-      small = λ h. let q = output-small s (stringPart m l field) out here inside short h in (rw n (q .0), w ∙ q .1);
-      large = λ h. let q = output-large s (stringPart m l field) out here inside short h in (rw n (q .0), w ∙ q .1);
-    }
+    let a = g .reading .answer in
+    subst (λ (k : ℕ). FieldTold s l field out a k out') (sym (g .is))
+    (subst (λ (o : List ℕ). FieldTold s l field out a (fieldNumber s l field out a) o) (sym (g .output-is))
+    (field-told s l (g .reading .end) field out a (g .read) (g .tidy .is) (g .sound .is)))

@@ -18,11 +18,11 @@ use Rattle.apdu_reading.specs.Answers.{outcomeOf, Tidy, SoundRecord}
 use Rattle.initialisation.specs.declared.records.Configuration.{Configuration}
 use Rattle.initialisation.specs.declared.records.Elements.{Elements}
 use Rattle.initialisation.specs.declared.records.Link.{Link}
-use Rattle.initialisation.specs.Link.{Changed}
+use Rattle.initialisation.specs.Link.{Changed, releaseOf, tickOf}
 use Rattle.initialisation.specs.Hearing as hearing
 use Rattle.initialisation.specs.Hearing.{Call, call, heardOf}
-use Rattle.words.specs.Answer.{answerNumber}
-use Rattle.words.specs.LinkWords.{withLink}
+use Rattle.words.specs.Answer.{answerNumber, Says, SaysRefused}
+use Rattle.words.specs.LinkWords.{withLink, linkIn}
 use Rattle.exports.specs.declared.link_calls.Offer.{Offer}
 use Rattle.exports.specs.declared.link_calls.Offer.the-variants as offer
 use Rattle.exports.specs.Messages.{refusalNumber, refusalAt}
@@ -83,7 +83,6 @@ offerOf (kind.Vst m) = offer.Other
 
 -- what an export brings besides the message; `words` are the link's
 pub record Brought : Type 0 where
-  pub link : Link
   pub words : List ℕ
   pub tick : ℕ
   pub lid : ℕ
@@ -92,12 +91,12 @@ pub record Brought : Type 0 where
   pub configuration : Configuration
   pub out : List ℕ
 
-abbrev pub brought : Link → List ℕ → (tick lid : ℕ) → Elements → List ℕ → Configuration → List ℕ → Brought
-brought link words tick lid own marks k out =
-    record { link = link; words = words; tick = tick; lid = lid; own = own; marks = marks; configuration = k; out = out }
+abbrev pub brought : List ℕ → (tick lid : ℕ) → Elements → List ℕ → Configuration → List ℕ → Brought
+brought words tick lid own marks k out =
+    record { words = words; tick = tick; lid = lid; own = own; marks = marks; configuration = k; out = out }
 
 abbrev pub callOf : Brought → List ℕ → Lists → Bst → Call
-callOf b s lists bst = call (b .link) bst lists s (b .tick) (b .lid) (b .own) (b .marks) (b .configuration) (b .out)
+callOf b s lists bst = call (linkIn (b .words)) bst lists s (b .tick) (b .lid) (b .own) (b .marks) (b .configuration) (b .out)
 
 unfoldable pub offeredEffect : Brought → List ℕ → Lists → Offer → Effect
 offeredEffect b s lists offer.Other = effect (refusalNumber 23) (b .words) (b .out)
@@ -114,3 +113,62 @@ pub record BstEffect (b : Brought) (s : List ℕ) (r : ℕ) (words' out' : List 
   pub tidy : Tidy reading
   pub sound : SoundRecord s reading
   pub is : effect r words' out' ≡ readEffect b s (reading .lists) (reading .answer)
+
+-- ---- what a caller takes out of a number r
+
+unfoldable pub ChangeSays : (r : ℕ) → Answer (Unit {0}) → Type 0
+ChangeSays r (accepted u) = Says r 0 0 0 0
+ChangeSays r (refused k) = SaysRefused r k 0
+
+unfoldable pub ReplySays : (r : ℕ) → hearing.Reply → Type 0
+ReplySays r (hearing.refused k) = SaysRefused r k 0
+ReplySays r hearing.silent = Says r 0 0 0 0
+ReplySays r (hearing.vst n) = Says r 0 1 n 0
+
+unfoldable pub OfferSays : (r : ℕ) → Brought → List ℕ → Lists → Offer → Type 0
+OfferSays r b s lists offer.Other = SaysRefused r 23 0
+OfferSays r b s lists (offer.Offered bst) = ReplySays r (heardOf (callOf b s lists bst) .reply)
+
+unfoldable pub BstSays : (r : ℕ) → Brought → List ℕ → Lists → reader.Answer → Type 0
+BstSays r b s lists (answer.Refused k p) = SaysRefused r k p
+BstSays r b s lists (answer.Message m) = OfferSays r b s lists (offerOf m)
+
+-- ---- the link after a BST call
+
+unfoldable pub offeredLink : Brought → List ℕ → Lists → Offer → Link
+offeredLink b s lists offer.Other = linkIn (b .words)
+offeredLink b s lists (offer.Offered bst) = heardOf (callOf b s lists bst) .link
+
+unfoldable pub heardLink : Brought → List ℕ → Lists → reader.Answer → Link
+heardLink b s lists (answer.Refused k p) = linkIn (b .words)
+heardLink b s lists (answer.Message m) = offeredLink b s lists (offerOf m)
+
+-- ---- promises (proofs/LinkNumbers.antt and LinkKept.antt prove them; `link_release`, `link_tick` and `link_bst` cite two each)
+
+-- what is taken out of the number is what the call answers
+unfoldable pub UnpackingRelease : Type 0
+UnpackingRelease = (lid : ℕ) (link : Link) → let a = releaseOf lid link .answer in ChangeSays (changeNumber a) a
+
+unfoldable pub UnpackingTick : Type 0
+UnpackingTick = (tick : ℕ) (link : Link) → let a = tickOf tick link .answer in ChangeSays (changeNumber a) a
+
+unfoldable pub UnpackingBst : Type 0
+UnpackingBst =
+    (b : Brought) (s : List ℕ) (r : ℕ) (words' out' : List ℕ) (g : BstEffect b s r words' out')
+    → BstSays r b s (g .reading .lists) (g .reading .answer)
+
+-- and the words afterwards are the link after the call, so exported calls on the same words are calls on that link
+unfoldable pub KeptReleased : Type 0
+KeptReleased =
+    (lid : ℕ) (words : List ℕ) (r : ℕ) (words' : List ℕ) → ChangeGives (releaseOf lid (linkIn words)) words r words'
+    → linkIn words' ≡ releaseOf lid (linkIn words) .link
+
+unfoldable pub KeptTicked : Type 0
+KeptTicked =
+    (tick : ℕ) (words : List ℕ) (r : ℕ) (words' : List ℕ) → ChangeGives (tickOf tick (linkIn words)) words r words'
+    → linkIn words' ≡ tickOf tick (linkIn words) .link
+
+unfoldable pub KeptHeard : Type 0
+KeptHeard =
+    (b : Brought) (s : List ℕ) (r : ℕ) (words' out' : List ℕ) (g : BstEffect b s r words' out')
+    → linkIn words' ≡ heardLink b s (g .reading .lists) (g .reading .answer)

@@ -2,7 +2,7 @@
 -- to 65 the parameters of its application entries. An absent container has kind 0, so a parameter is a string just where its kind is 2.
 -- Assumes nothing.
 use Prim.Native.Nat.{ℕ, _-_, _≤_, _<_}
-use mathlib.Core.Bool.{Bool, true, false}
+use mathlib.Core.Bool.{Bool, false}
 use mathlib.Core.Path.{_≡_}
 use mathlib.Core.List.{List, _++_}
 use lib.Dec.{eqb, ltb}
@@ -21,7 +21,7 @@ use Rattle.apdu_reading.specs.declared.front.Answer.{Answer}
 use Rattle.apdu_reading.specs.declared.front.Answer.the-variants as answer
 use Rattle.apdu_reading.specs.declared.front.Reading.{Reading}
 use Rattle.apdu_reading.specs.Answers.{outcomeOf, Tidy, SoundRecord}
-use Rattle.words.specs.Answer.{answerNumber, Says}
+use Rattle.words.specs.Answer.{answerNumber, Says, SaysRefused}
 use Rattle.exports.specs.declared.strings.StringPart.{StringPart}
 use Rattle.exports.specs.Messages.{refusalNumber, refusalAt}
 
@@ -100,14 +100,21 @@ pub record StringGives (s : List ℕ) (field : ℕ) (out : List ℕ) (r : ℕ) (
   pub is : r ≡ fieldNumber s (reading .lists) field out (reading .answer)
   pub output-is : out' ≡ fieldOutput s (reading .lists) field out (reading .answer)
 
--- ---- the law (proofs/StringInside.antt proves it): every string of a message lies inside it, whichever its number, so 22 says that the output is
--- shorter than the string, and nothing else
+-- ---- the promise (proofs/StringInside.antt proves it; `string` cites it): every string of a message lies inside it, whichever its number, so 22 says
+-- that the output is shorter than the string, and nothing else; and what is taken out of the number is what is answered
 
+-- a string that is there
 pub record StringTold (s : List ℕ) (p : StringPart) (out : List ℕ) (r : ℕ) (out' : List ℕ) : Type 0 where
-  pub small : length out < p .length → Says r 22 0 0 0 × (out' ≡ out)
+  pub small : length out < p .length → SaysRefused r 22 0 × (out' ≡ out)
   pub large : p .length ≤ length out → Says r 0 1 (p .length) 0 × (out' ≡ stringAt s (p .start) (p .length) ++ drop (p .length) out)
+
+-- reading's refusal; no such string; or the string
+unfoldable pub FieldTold : (s : List ℕ) → Lists → (field : ℕ) → (out : List ℕ) → Answer → (r : ℕ) → (out' : List ℕ) → Type 0
+FieldTold s lists field out (answer.Refused k p) r out' = SaysRefused r k p × (out' ≡ out)
+FieldTold s lists field out (answer.Message m) r out' =
+    let p = stringPart m lists field in pick (p .present) (StringTold s p out r out') (Says r 0 0 0 0 × (out' ≡ out))
 
 unfoldable pub EachString : Type 0
 EachString =
-    (s : List ℕ) (field : ℕ) (out : List ℕ) (r : ℕ) (out' : List ℕ) (g : StringGives s field out r out') (m : Message)
-    → g .reading .answer ≡ answer.Message m → stringPart m (g .reading .lists) field .present ≡ true → StringTold s (stringPart m (g .reading .lists) field) out r out'
+    (s : List ℕ) (field : ℕ) (out : List ℕ) (r : ℕ) (out' : List ℕ) (g : StringGives s field out r out')
+    → FieldTold s (g .reading .lists) field out (g .reading .answer) r out'

@@ -5,7 +5,7 @@ ghost use Rattle.attributes.specs.Serving.{toldOf};
 ghost use Rattle.refusals.specs.Check.{pick};
 ghost use Rattle.words.specs.RowWords.{rowsIn};
 ghost use Rattle.words.specs.Word.{narrowTo};
-ghost use Rattle.exports.specs.AttributeCalls.{outcomeNumber, RequestGives, LookupGives};
+ghost use Rattle.exports.specs.AttributeCalls.{outcomeNumber, RequestGives, LookupGives, UnpackingRequest, UnpackingLookup, LargeSought};
 use attributes::RequestOutcome;
 use directory::KnowsAnswer;
 use words::directory_in;
@@ -38,7 +38,8 @@ pub extern "C" fn semuryeon_request(
     writable: &mut [u8],
     out: &mut [u8],
 ) -> u64
-    ensures { λ r. ⌜ RequestGives (tagOf eid (now (credentials .entry)) (rowsIn (now (rows .entry))) (now (factory .entry)) (now (writable .entry))) (now (s .entry)) (now (out .entry)) r (now (writable .exit)) (now (out .exit)) ⌝ }
+    ensures answer { λ r. ⌜ RequestGives (tagOf eid (now (credentials .entry)) (rowsIn (now (rows .entry))) (now (factory .entry)) (now (writable .entry))) (now (s .entry)) (now (out .entry)) r (now (writable .exit)) (now (out .exit)) ⌝ }
+    ensures unpacking { λ _. ⌜ UnpackingRequest ⌝ }
 {
     let result = attributes::request_in(
         s,
@@ -69,7 +70,9 @@ pub extern "C" fn semuryeon_lookup(
     writable: usize,
     part: &mut [u32],
 ) -> u64
-    ensures { λ r. ⌜ LookupGives factory writable (rowsIn (now (rows .entry))) (narrowTo 8 id) (now (part .entry)) r (now (part .exit)) ⌝ }
+    ensures answer { λ r. ⌜ LookupGives factory writable (rowsIn (now (rows .entry))) (narrowTo 8 id) (now (part .entry)) r (now (part .exit)) ⌝ }
+    ensures unpacking { λ _. ⌜ UnpackingLookup ⌝ }
+    ensures large_id { λ _. ⌜ LargeSought ⌝ }
 {
     let d = directory_in(rows);
     let sought = narrow(id);

@@ -5,6 +5,7 @@ ghost use Rattle.initialisation.specs.Hearing.{replyOf, call};
 ghost use Rattle.words.specs.LinkWords.{linkIn};
 ghost use Rattle.words.specs.ElementWords.{elementsIn};
 ghost use Rattle.exports.specs.LinkCalls.{changeNumber, changeWords, ChangeGives, replyNumber, replyWords, effect, heardEffect, offerOf, brought, BstEffect};
+ghost use Rattle.exports.specs.LinkCalls.{UnpackingRelease, UnpackingTick, UnpackingBst, KeptReleased, KeptTicked, KeptHeard};
 use apdu::Bst;
 use apdu::Lists;
 use apdu::Message;
@@ -38,7 +39,9 @@ fn changed(result: LinkResult, link: &mut [u32]) -> u64
 // Release of a LID. Refused 3, 23, 25.
 #[no_mangle]
 pub extern "C" fn semuryeon_link_release(lid: u32, link: &mut [u32]) -> u64
-    ensures { λ r. ⌜ ChangeGives (releaseOf lid (linkIn (now (link .entry)))) (now (link .entry)) r (now (link .exit)) ⌝ }
+    ensures answer { λ r. ⌜ ChangeGives (releaseOf lid (linkIn (now (link .entry)))) (now (link .entry)) r (now (link .exit)) ⌝ }
+    ensures unpacking { λ _. ⌜ UnpackingRelease ⌝ }
+    ensures kept { λ _. ⌜ KeptReleased ⌝ }
 {
     let result = initialisation::release(link_in(link), lid);
     changed(result, link)
@@ -47,7 +50,9 @@ pub extern "C" fn semuryeon_link_release(lid: u32, link: &mut [u32]) -> u64
 // A tick passes. Refused 23.
 #[no_mangle]
 pub extern "C" fn semuryeon_link_tick(tick: u32, link: &mut [u32]) -> u64
-    ensures { λ r. ⌜ ChangeGives (tickOf tick (linkIn (now (link .entry)))) (now (link .entry)) r (now (link .exit)) ⌝ }
+    ensures answer { λ r. ⌜ ChangeGives (tickOf tick (linkIn (now (link .entry)))) (now (link .entry)) r (now (link .exit)) ⌝ }
+    ensures unpacking { λ _. ⌜ UnpackingTick ⌝ }
+    ensures kept { λ _. ⌜ KeptTicked ⌝ }
 {
     let result = initialisation::tick(link_in(link), tick);
     changed(result, link)
@@ -140,7 +145,9 @@ pub extern "C" fn semuryeon_link_bst(
     status: u32,
     out: &mut [u8],
 ) -> u64
-    ensures { λ r. ⌜ BstEffect (brought (linkIn (now (link .entry))) (now (link .entry)) tick lid (elementsIn (now (elements .entry))) (now (marks .entry)) (record { class = class; maker = maker; status = status }) (now (out .entry))) (now (s .entry)) r (now (link .exit)) (now (out .exit)) ⌝ }
+    ensures answer { λ r. ⌜ BstEffect (brought (now (link .entry)) tick lid (elementsIn (now (elements .entry))) (now (marks .entry)) (record { class = class; maker = maker; status = status }) (now (out .entry))) (now (s .entry)) r (now (link .exit)) (now (out .exit)) ⌝ }
+    ensures unpacking { λ _. ⌜ UnpackingBst ⌝ }
+    ensures kept { λ _. ⌜ KeptHeard ⌝ }
 {
     let reading = apdu_reading::read(s);
     let answer = reading.answer;

@@ -1,7 +1,7 @@
 // The octet strings of a message by number: 0 the credentials, 1 the parameter, 2 to 33 the attribute rows in the order of the message, 34 to 65 the parameters of the
 // application entries.
 ghost use mathlib.Core.Path.{_≡_};
-ghost use Rattle.exports.specs.Strings.{part, noString, credentialsIn, parameterIn, rowString, entryString, stringPart, stringNumber, stringOutput, StringGives};
+ghost use Rattle.exports.specs.Strings.{part, noString, credentialsIn, parameterIn, rowString, entryString, stringPart, stringNumber, stringOutput, StringGives, EachString};
 use apdu::Entry;
 use apdu::Lists;
 use apdu::Message;
@@ -152,7 +152,8 @@ fn give(s: &[u8], p: StringPart, out: &mut [u8]) -> u64
 // refuses, first being the position; then 22.
 #[no_mangle]
 pub extern "C" fn semuryeon_string(s: &[u8], field: u32, out: &mut [u8]) -> u64
-    ensures { λ r. ⌜ StringGives (now (s .entry)) field (now (out .entry)) r (now (out .exit)) ⌝ }
+    ensures answer { λ r. ⌜ StringGives (now (s .entry)) field (now (out .entry)) r (now (out .exit)) ⌝ }
+    ensures inside { λ _. ⌜ EachString ⌝ }
 {
     let reading = apdu_reading::read(s);
     let answer = reading.answer;

@@ -1,4 +1,5 @@
 -- `exports::attribute_calls::semuryeon_request` meets its contract: the call of the rows that the words are. Assumes nothing.
+use Rattle.exports.proofs.AttributeNumbers.{unpacking-request}
 use borrow.Author.Needs.{needs}
 use Rattle.exports.proofs.attribute_calls.semuryeon_request.Statement.{statement}
 use Rattle.exports.proofs.attribute_calls.semuryeon_request.Tie as tie
@@ -19,7 +20,7 @@ same-length-2 : tie.Need-same-length-2
 same-length-2 c = search needs
 
 returns : tie.Need-returns
-returns c = rw (← c .before .before .before .before .before .before .before .before .directory-in .ensures .0) (record { call = c .before .before .before .before .before .request-in .result; answered = c .before .before .before .before .before .request-in .ensures; is = c .told .ensures })
+returns c = (rw (← c .before .before .before .before .before .before .before .before .directory-in .ensures .0) (record { call = c .before .before .before .before .before .request-in .result; answered = c .before .before .before .before .before .request-in .ensures; is = c .told .ensures }), unpacking-request)
 
 pub semuryeon-request-spec : {M : Type 1} → statement M
 semuryeon-request-spec =

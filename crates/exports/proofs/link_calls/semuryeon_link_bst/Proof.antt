@@ -1,5 +1,7 @@
 -- `exports::link_calls::semuryeon_link_bst` meets its contract, for the record that reading makes. Assumes nothing.
 use Rattle.exports.proofs.LinkCallLaws.{bst-refused, bst-other, bst-heard}
+use Rattle.exports.proofs.LinkKept.{kept-heard}
+use Rattle.exports.proofs.LinkNumbers.{unpacking-bst}
 use borrow.Author.Needs.{needs}
 use Rattle.exports.proofs.link_calls.semuryeon_link_bst.Statement.{statement}
 use Rattle.exports.proofs.link_calls.semuryeon_link_bst.Tie as tie
@@ -32,10 +34,10 @@ hear-requires : tie.Need-hear-requires
 hear-requires c κs = search needs
 
 returns : tie.Need-returns
-returns c = bst-refused _ _ _ (c .before .before .before .before .before .read .ensures) _ _ (c .before .before .answer .given .1) (c .packed .ensures .0)
+returns c = (bst-refused _ _ _ (c .before .before .before .before .before .read .ensures) _ _ (c .before .before .answer .given .1) (c .packed .ensures .0), (unpacking-bst, kept-heard))
 
 returns-2 : tie.Need-returns-2
-returns-2 c = bst-other _ _ _ (c .before .before .before .before .before .before .before .before .read .ensures) _ _ (c .before .before .before .before .before .answer2 .given .1) (c .before .before .before .offer-of .ensures) (c .before .enum-told .given .1) (c .packed2 .ensures .0)
+returns-2 c = (bst-other _ _ _ (c .before .before .before .before .before .before .before .before .read .ensures) _ _ (c .before .before .before .before .before .answer2 .given .1) (c .before .before .before .offer-of .ensures) (c .before .enum-told .given .1) (c .packed2 .ensures .0), (unpacking-bst, kept-heard))
 
 same-length : tie.Need-same-length
 same-length c = search needs
@@ -44,7 +46,7 @@ same-length-2 : tie.Need-same-length-2
 same-length-2 c = search needs
 
 returns-3 : tie.Need-returns-3
-returns-3 c = bst-heard _ _ _ (c .before .before .before .before .before .before .before .before .before .before .before .before .before .before .before .read .ensures) _ _ (c .before .before .before .before .before .before .before .before .before .before .before .before .answer2 .given .1) (c .before .before .before .before .before .before .before .before .before .before .offer-of .ensures) _ (c .before .before .before .before .before .before .before .before .offer .given .1) (c .before .before .before .before .hear .ensures)
+returns-3 c = (bst-heard _ _ _ (c .before .before .before .before .before .before .before .before .before .before .before .before .before .before .before .read .ensures) _ _ (c .before .before .before .before .before .before .before .before .before .before .before .before .answer2 .given .1) (c .before .before .before .before .before .before .before .before .before .before .offer-of .ensures) _ (c .before .before .before .before .before .before .before .before .offer .given .1) (c .before .before .before .before .hear .ensures), (unpacking-bst, kept-heard))
 
 pub semuryeon-link-bst-spec : {M : Type 1} → statement M
 semuryeon-link-bst-spec =
