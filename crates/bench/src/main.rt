@@ -19,7 +19,7 @@ pub struct Run {
 
 fn main() {
     let mut input = io::large_buffer();
-    let mut line = [0u8; 601];
+    let mut line = [0u8; bench_lines::LONGEST_LINE + 1];
     let mut lsdu = [0u8; 300];
     let mut store = [0u8; 4096];
     let mut output = [0u8; 512];

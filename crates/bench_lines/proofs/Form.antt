@@ -15,7 +15,7 @@ use Rattle.bench_lines.specs.Inside.{capped}
 use Rattle.bench_lines.specs.Line.{before, firstSpace, secondSpace, lidText, tickText, lsduText, allHold, hasForm}
 use Rattle.bench_lines.proofs.Spelling.{and-both}
 
-and-end : (b : Bool) → (b && true) ≡ b
+pub and-end : (b : Bool) → (b && true) ≡ b
 and-end true = refl
 and-end false = refl
 

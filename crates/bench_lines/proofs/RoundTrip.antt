@@ -2,23 +2,24 @@
 -- three texts.
 -- Assumes nothing.
 use mathlib.Core.Path.{_≡_, refl, ap, sym, _∙_}
-use mathlib.Core.Bool.{true}
+use mathlib.Core.Bool.{true, _&&_}
 use Prim.Native.Nat.{ℕ, zero, suc, _+_, _*_, _/_, _%_, _^_, _≤_, _<_}
 use mathlib.Core.List.{List, [], _∷_, _++_, append-assoc}
-use native.Mathlib.Nat.{pow-zero, pow-suc, mul-one, zero-mul, mul-assoc, add-mul, div-add-mod', div-lt-iff-lt-mul, mod-lt}
+use native.Mathlib.Nat.{pow-zero, pow-suc, mul-one, one-mul, zero-mul, mul-assoc, add-mul, mul-pos, mul-le-mul-right, div-add-mod', mod-lt, mod-one, mod-eq-of-lt, mul-add-mod-self-right}
 use native.Mathlib.Omega.{arith}
-use lib.Dec.{ltb, eqb}
+use lib.Dec.{leb, ltb, eqb}
 use lib.ListN.{length, take, drop, length-append}
 use lib.Seq.{take-append-seam, take-at, drop-at}
 use borrow.Author.Tests.{le-leb, lt-leb, lt-ltb, eq-eqb, ltb-true, ltb-false, eqb-true}
-use Rattle.refusals.specs.Check.{accepted}
+use Rattle.refusals.specs.Check.{pick, refused, accepted}
 use Rattle.refusals.proofs.Tests.{by-cases}
 use Rattle.bits.specs.Bits.{Octets}
 use Rattle.bits.proofs.Laws.{below-tail}
 use Rattle.bench_lines.specs.Numerals.{digitValue, allDigits, spelledAfter, spelled, octetsOf, digitFor, digitsBefore, width, decimalBefore}
-use Rattle.bench_lines.specs.Line.{before, firstSpace, secondSpace, lidText, tickText, lsduText, allHold, hasForm, fieldsOf, readLine, lsduAfter, hexText, lineText}
-use Rattle.bench_lines.specs.RoundTrip.{Printable, GivenBack, ReadingPrinted}
+use Rattle.bench_lines.specs.Line.{longestLine, lidDigits, tickBound, before, firstSpace, secondSpace, lidText, tickText, lsduText, allHold, hasForm, fieldsOf, readLine, lsduAfter, hexText, lineText}
+use Rattle.bench_lines.specs.RoundTrip.{hasPlace, GivenBack, ReadingPrinted}
 use Rattle.bench_lines.proofs.Spelling.{and-both}
+use Rattle.bench_lines.proofs.Form.{and-end}
 use Rattle.bench_lines.proofs.Decimal.{width-one, width-more, width-positive, digits-append, length-digits}
 
 -- ---- the digits of a number
@@ -44,28 +45,40 @@ module _ (base : ℕ) (some : 0 < base) (most : base ≤ 16) where
   digits-all (suc k) n l e =
       digits-all k (n / base) (digitFor (n % base) ∷ l) (rw (value-digit n) (simp (lt-ltb _ _ (digit-lt n), e)))
 
-  digits-spell : (k v n : ℕ) (l : List ℕ) → n < base ^ k → spelledAfter base v (digitsBefore base k n l) ≡ spelledAfter base (v * base ^ k + n) l
-  unfolding digitsBefore spelledAfter
-  digits-spell zero v n l h =
-      let z : n < 1 = rw pow-zero at h in
-      let e : v * base ^ 0 + n ≡ v = rw (pow-zero, mul-one) (omega arith) in
-      sym (ap (λ (m : ℕ). spelledAfter base m l) e)
-  digits-spell (suc k) v n l h =
-      let p : n < base ^ k * base = rw pow-suc at h in
-      let q : n / base < base ^ k = div-lt-iff-lt-mul some .1 p in
-      let a = add-mul (v * base ^ k) (n / base) base in
-      let b = mul-assoc v (base ^ k) base in
-      let c = div-add-mod' n base in
-      let e : (v * base ^ k + n / base) * base + digitValue (digitFor (n % base)) ≡ v * base ^ suc k + n =
-      rw (value-digit n, pow-suc) (omega (arith, a, b, c)) in
-      digits-spell k v (n / base) (digitFor (n % base) ∷ l) q ∙ ap (λ (m : ℕ). spelledAfter base m l) e
+  -- the k + 1 last digits of n: the k last in front of its last
+  last-digits : (k n : ℕ) → (n / base % base ^ k) * base + n % base ≡ n % base ^ suc k
+  last-digits k n =
+      let p = base ^ k in
+      let q = n / base in
+      let l : q % p + 1 ≤ p = omega (arith, mod-lt q (pow-pos k)) in
+      let m : (q % p + 1) * base ≤ p * base = mul-le-mul-right base l in
+      let f : q % p * base + n % base < p * base = omega (arith, m, add-mul (q % p) 1 base, one-mul base, digit-lt n) in
+      let e : n ≡ q / p * (p * base) + (q % p * base + n % base) =
+      omega (arith, div-add-mod' n base, ap (λ (x : ℕ). x * base) (div-add-mod' q p), add-mul (q / p * p) (q % p) base, mul-assoc (q / p) p base) in
+      sym (rw pow-suc (ap (λ (x : ℕ). x % (p * base)) e ∙ mul-add-mod-self-right (q / p) (p * base) (q % p * base + n % base) ∙ mod-eq-of-lt f))
+    where
+      pow-pos : (k : ℕ) → 0 < base ^ k
+      pow-pos zero = rw pow-zero (omega arith)
+      pow-pos (suc k) = rw pow-suc (mul-pos (pow-pos k) some)
 
-  -- the digits of a number, none in front of them and none behind
-  digits-number : (k n : ℕ) → n < base ^ k → spelled base (digitsBefore base k n []) ≡ n
+  digits-spell : (k v n : ℕ) (l : List ℕ) → spelledAfter base v (digitsBefore base k n l) ≡ spelledAfter base (v * base ^ k + n % base ^ k) l
+  unfolding digitsBefore spelledAfter
+  digits-spell zero v n l =
+      let e : v * base ^ 0 + n % base ^ 0 ≡ v = rw (pow-zero, mul-one, mod-one) (omega arith) in
+      sym (ap (λ (m : ℕ). spelledAfter base m l) e)
+  digits-spell (suc k) v n l =
+      let a = add-mul (v * base ^ k) (n / base % base ^ k) base in
+      let b = mul-assoc v (base ^ k) base in
+      let e : (v * base ^ k + n / base % base ^ k) * base + digitValue (digitFor (n % base)) ≡ v * base ^ suc k + n % base ^ suc k =
+      rw (value-digit n, ← last-digits k n, pow-suc) (omega (arith, a, b)) in
+      digits-spell k v (n / base) (digitFor (n % base) ∷ l) ∙ ap (λ (m : ℕ). spelledAfter base m l) e
+
+  -- the last k digits of a number, none in front of them and none behind
+  digits-number : (k n : ℕ) → spelled base (digitsBefore base k n []) ≡ n % base ^ k
   unfolding spelled spelledAfter
-  digits-number k n h =
+  digits-number k n =
       let z = zero-mul (base ^ k) in
-      digits-spell k 0 n [] h ∙ omega arith
+      digits-spell k 0 n [] ∙ omega arith
 
   -- a space is no digit
   before-space : (a b : List ℕ) → allDigits base a ≡ true → before 32 (a ++ (32 ∷ b)) ≡ length a
@@ -160,23 +173,24 @@ module _ (a b c : List ℕ) (hex : allDigits 16 a ≡ true) (decimal : allDigits
   length-line : length line ≡ length a + (1 + (length b + (1 + length c)))
   length-line = omega (arith, length-append a (32 ∷ (b ++ (32 ∷ c))), length-append b (32 ∷ c))
 
-  module _ (short : length line ≤ 600) (seven : length a ≡ 7) (some : 0 < length b) (small : spelled 10 b < 4294967296) (even : length c % 2 ≡ 0) (digits : allDigits 16 c ≡ true) where
-    formed : hasForm line ≡ true
+  module _ (seven : length a ≡ 7) (some : 0 < length b) (even : length c % 2 ≡ 0) (digits : allDigits 16 c ≡ true) where
+    formed : hasForm line ≡ (leb (length line) longestLine && ltb (spelled 10 b) tickBound)
     unfolding hasForm allHold
     formed =
         let h : length a + 1 + length b < length line = omega (arith, length-line) in
-        simp (le-leb _ _ short, first-is, eq-eqb _ _ seven, second-is, lt-ltb _ _ h, lid-is, hex, tick-is, lt-ltb _ _ some, decimal, lt-ltb _ _ small, lsdu-is, eq-eqb _ _ even, digits)
+        simp (first-is, eq-eqb _ _ seven, second-is, lt-ltb _ _ h, lid-is, hex, tick-is, lt-ltb _ _ some, decimal, lsdu-is, eq-eqb _ _ even, digits, and-end)
 
-    pub read-back : (room : ℕ) → length c / 2 ≤ room
-        → readLine line room ≡ accepted (record { lid = spelled 16 a; tick = spelled 10 b; octets = length c / 2 })
+    pub read-back : (room : ℕ) → readLine line room
+        ≡ pick (leb (length line) longestLine && ltb (spelled 10 b) tickBound)
+        (pick (leb (length c / 2) room) (accepted (record { lid = spelled 16 a; tick = spelled 10 b; octets = length c / 2 })) (refused 22)) (refused 0)
     unfolding readLine fieldsOf
-    read-back room h = simp (formed, lid-is, tick-is, lsdu-is, le-leb _ _ h)
+    read-back room = simp (formed, lid-is, tick-is, lsdu-is)
 
 -- ---- reading what was printed
 
 module _ (lid tick : ℕ) (lsdu : List ℕ) where
   lid-digits : List ℕ
-  lid-digits = digitsBefore 16 7 lid []
+  lid-digits = digitsBefore 16 lidDigits lid []
 
   tick-digits : List ℕ
   tick-digits = digitsBefore 10 (width tick) tick []
@@ -184,43 +198,40 @@ module _ (lid tick : ℕ) (lsdu : List ℕ) where
   text-is : lineText lid tick lsdu ≡ parted lid-digits tick-digits (hexText lsdu)
   unfolding lineText decimalBefore lid-digits tick-digits
   text-is =
-      digits-append 16 7 lid (32 ∷ digitsBefore 10 (width tick) tick (32 ∷ hexText lsdu))
-      ∙ ap (λ (l : List ℕ). digitsBefore 16 7 lid [] ++ (32 ∷ l)) (digits-append 10 (width tick) tick (32 ∷ hexText lsdu))
+      digits-append 16 lidDigits lid (32 ∷ digitsBefore 10 (width tick) tick (32 ∷ hexText lsdu))
+      ∙ ap (λ (l : List ℕ). digitsBefore 16 lidDigits lid [] ++ (32 ∷ l)) (digits-append 10 (width tick) tick (32 ∷ hexText lsdu))
 
-  module _ (p : Printable lid tick lsdu) (buffer : List ℕ) (room : length lsdu ≤ length buffer) where
+  module _ (o : Octets lsdu) (buffer : List ℕ) where
     hex : allDigits 16 lid-digits ≡ true
     unfolding lid-digits allDigits
-    hex = digits-all 16 (omega arith) (omega arith) 7 lid [] refl
+    hex = digits-all 16 (omega arith) (omega arith) lidDigits lid [] refl
 
     decimal : allDigits 10 tick-digits ≡ true
     unfolding tick-digits allDigits
     decimal = digits-all 10 (omega arith) (omega arith) (width tick) tick [] refl
 
-    lid-spelled : spelled 16 lid-digits ≡ lid
+    lid-spelled : spelled 16 lid-digits ≡ lid % 16 ^ lidDigits
     unfolding lid-digits
-    lid-spelled = digits-number 16 (omega arith) (omega arith) 7 lid (p .lidFits)
+    lid-spelled = digits-number 16 (omega arith) (omega arith) lidDigits lid
 
     tick-spelled : spelled 10 tick-digits ≡ tick
     unfolding tick-digits
-    tick-spelled = digits-number 10 (omega arith) (omega arith) (width tick) tick (width-pow tick tick (omega arith))
+    tick-spelled = digits-number 10 (omega arith) (omega arith) (width tick) tick ∙ mod-eq-of-lt (width-pow tick tick (omega arith))
 
     octets-half : length (hexText lsdu) / 2 ≡ length lsdu
     octets-half = omega (arith, length-hex lsdu)
 
     pub given-back : GivenBack lid tick lsdu buffer
-    unfolding lid-digits tick-digits lsduAfter
+    unfolding lid-digits tick-digits lsduAfter hasPlace
     given-back =
-        let short : length (parted lid-digits tick-digits (hexText lsdu)) ≤ 600 = rw text-is at (p .short) in
-        let small : spelled 10 tick-digits < 4294967296 = rw tick-spelled (p .tickFits) in
         let back =
-        read-back lid-digits tick-digits (hexText lsdu) hex decimal short (length-digits 16 7 lid [])
-        (omega (arith, length-digits 10 (width tick) tick [], width-positive tick)) small (omega (arith, length-hex lsdu)) (hex-digits lsdu (p .octets))
-        (length buffer) (omega (arith, octets-half)) in
+        read-back lid-digits tick-digits (hexText lsdu) hex decimal (length-digits 16 lidDigits lid [])
+        (omega (arith, length-digits 10 (width tick) tick [], width-positive tick)) (omega (arith, length-hex lsdu)) (hex-digits lsdu o) (length buffer) in
         record {
-          answer = rw text-is (back ∙ rw (lid-spelled, tick-spelled, octets-half));
-          front = rw (text-is, lsdu-is lid-digits tick-digits (hexText lsdu) hex decimal, hex-octets lsdu (p .octets));
+          answer = rw text-is (rw (lid-spelled, tick-spelled, octets-half) at back);
+          front = rw (text-is, lsdu-is lid-digits tick-digits (hexText lsdu) hex decimal, hex-octets lsdu o);
         }
 
 pub reading-printed : ReadingPrinted
 unfolding ReadingPrinted
-reading-printed lid tick lsdu buffer p h = given-back lid tick lsdu p buffer h
+reading-printed lid tick lsdu buffer o = given-back lid tick lsdu o buffer

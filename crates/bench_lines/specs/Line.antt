@@ -2,7 +2,7 @@
 --   LID: 7 hex digits. Tick: a decimal number below 2^32, of any number of digits. LSDU: hex of even length; if empty, its space stays.
 -- The line feed is no part of a line. What 01 leaves open: an LSDU that is longer than the lent buffer is refused with 22, once the form is right.
 -- Assumes nothing.
-use Prim.Native.Nat.{ℕ, suc, _+_, _/_, _%_}
+use Prim.Native.Nat.{ℕ, suc, _+_, _/_, _%_, _^_}
 use mathlib.Core.Bool.{Bool, true, _&&_}
 use mathlib.Core.List.{List, [], _∷_, _++_}
 use lib.Dec.{leb, ltb, eqb}
@@ -12,6 +12,18 @@ use Rattle.refusals.specs.Check.{pick, Answer, refused, accepted}
 use Rattle.bench_lines.specs.Numerals.{allDigits, spelled, octetsOf, digitFor, digitsBefore, decimalBefore}
 use Rattle.bench_lines.specs.declared.LineRead.{LineRead}
 use Rattle.bench_lines.specs.declared.LineRead.the-variants as read
+
+-- ---- 01's limits
+
+-- the most characters of a line, the hex digits of a LID, and the number that a tick is below
+abbrev pub longestLine : ℕ
+longestLine = 600
+
+abbrev pub lidDigits : ℕ
+lidDigits = 7
+
+abbrev pub tickBound : ℕ
+tickBound = 2 ^ 32
 
 -- ---- the three fields
 
@@ -46,13 +58,13 @@ allHold (b ∷ bs) = b && allHold bs
 unfoldable pub hasForm : List ℕ → Bool
 hasForm line =
     allHold
-    (leb (length line) 600
-    ∷ eqb (firstSpace line) 7
+    (leb (length line) longestLine
+    ∷ eqb (firstSpace line) lidDigits
     ∷ ltb (secondSpace line) (length line)
     ∷ allDigits 16 (lidText line)
     ∷ ltb 0 (length (tickText line))
     ∷ allDigits 10 (tickText line)
-    ∷ ltb (spelled 10 (tickText line)) 4294967296
+    ∷ ltb (spelled 10 (tickText line)) tickBound
     ∷ eqb (length (lsduText line) % 2) 0
     ∷ allDigits 16 (lsduText line)
     ∷ []
@@ -92,6 +104,6 @@ unfoldable pub hexText : List ℕ → List ℕ
 hexText [] = []
 hexText (o ∷ s) = digitFor (o / 16) ∷ (digitFor (o % 16) ∷ hexText s)
 
--- LID, tick and LSDU as a line
+-- LID, tick and LSDU as a line; of a LID its last digits
 unfoldable pub lineText : ℕ → ℕ → List ℕ → List ℕ
-lineText lid tick lsdu = digitsBefore 16 7 lid (32 ∷ decimalBefore tick (32 ∷ hexText lsdu))
+lineText lid tick lsdu = digitsBefore 16 lidDigits lid (32 ∷ decimalBefore tick (32 ∷ hexText lsdu))

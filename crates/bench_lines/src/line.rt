@@ -3,6 +3,7 @@ ghost use mathlib.Core.Path.{_≡_};
 ghost use Prim.Native.Nat.{_+_};
 ghost use lib.ListN.{length, drop};
 ghost use Rattle.bench_lines.specs.Line.{before, hasForm, readLine, lineAnswer, lsduAfter};
+ghost use Rattle.bench_lines.specs.RoundTrip.{ReadingPrinted};
 use crate::LONGEST_LINE;
 use crate::LineRead;
 use crate::NOT_A_LINE;
@@ -65,7 +66,8 @@ fn has_form(line: &[u8]) -> bool
 
 // The fields of a line, and its LSDU at the front of `lsdu`; 0 where it has not 01's form, then 22 where `lsdu` is too short.
 pub fn read_line(line: &[u8], lsdu: &mut [u8]) -> LineRead
-    ensures { λ r. ⌜ (lineAnswer r ≡ readLine (now (line .entry)) (length (now (lsdu .entry)))) × (now (lsdu .exit) ≡ lsduAfter (lineAnswer r) (now (line .entry)) (now (lsdu .entry))) ⌝ }
+    ensures answer { λ r. ⌜ (lineAnswer r ≡ readLine (now (line .entry)) (length (now (lsdu .entry)))) × (now (lsdu .exit) ≡ lsduAfter (lineAnswer r) (now (line .entry)) (now (lsdu .entry))) ⌝ }
+    ensures printed { λ _. ⌜ ReadingPrinted ⌝ }
 {
     if !has_form(line) {
         return LineRead::Refused(NOT_A_LINE);

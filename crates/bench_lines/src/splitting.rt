@@ -4,6 +4,7 @@ ghost use Prim.Native.Nat.{_+_, _≤_};
 ghost use lib.ListN.{length};
 ghost use Rattle.bench_lines.specs.Inside.{copied};
 ghost use Rattle.bench_lines.specs.Splitting.{lineEnd, keptLine, bufferAfter};
+ghost use Rattle.bench_lines.specs.RoundTrip.{KeepingParts, ReadingKept};
 use crate::line::find;
 
 const LINE_FEED: u8 = b'\n';
@@ -29,7 +30,9 @@ pub fn line_end(input: &[u8], from: usize) -> usize
 
 // Puts a part of a line behind the `held` octets that `buffer` has of it, as much as it has room for, and answers how many it then has.
 pub fn keep_part(part: &[u8], buffer: &mut [u8], held: usize) -> usize
-    ensures { λ r. ⌜ (r ≡ length (keptLine (now (buffer .entry)) held (now (part .entry)))) × (now (buffer .exit) ≡ bufferAfter (keptLine (now (buffer .entry)) held (now (part .entry))) (now (buffer .entry))) ⌝ }
+    ensures answer { λ r. ⌜ (r ≡ length (keptLine (now (buffer .entry)) held (now (part .entry)))) × (now (buffer .exit) ≡ bufferAfter (keptLine (now (buffer .entry)) held (now (part .entry))) (now (buffer .entry))) ⌝ }
+    ensures parts { λ _. ⌜ KeepingParts ⌝ }
+    ensures whole { λ _. ⌜ ReadingKept ⌝ }
 {
     let most = buffer.len();
     if most < held {

@@ -37,14 +37,14 @@ returns c =
     let c7 = c .before .before .before .before .before .before .before in
     let c10 = c7 .before .before .before in
     let c14 = c10 .before .before .before .before in
-    line-joined _ _ _ _ _ _ _ _ _ _ (c14 .read-line .ensures) _ _ _ _ (c10 .lid .given .1) (c7 .front .ensures) (c .before .before .before .before .join .ensures)
+    line-joined _ _ _ _ _ _ _ _ _ _ (c14 .read-line .ensures .0) _ _ _ _ (c10 .lid .given .1) (c7 .front .ensures) (c .before .before .before .before .join .ensures)
 
 same-length-4 : tie.Need-same-length-4
 same-length-4 c = search needs
 
 returns-2 : tie.Need-returns-2
 returns-2 c =
-    line-refused _ _ _ _ _ _ _ _ _ _ (c .before .before .before .before .before .before .read-line .ensures) _ (c .before .before .number .given .1) refl (c .no-octets .ensures) refl refl
+    line-refused _ _ _ _ _ _ _ _ _ _ (c .before .before .before .before .before .before .read-line .ensures .0) _ (c .before .before .number .given .1) refl (c .no-octets .ensures) refl refl
 
 pub take-line-spec : {M : Type 1} → statement M
 take-line-spec =

@@ -1,7 +1,9 @@
--- `bench_lines::line::read_line` meets its contract: the form tells where its fields stand, and that they fit. Assumes nothing.
+-- `bench_lines::line::read_line` meets its contract: the form tells where its fields stand, and that they fit; that a printed line reads back is a law of the definitions.
+-- Assumes nothing.
 use native.Mathlib.Omega.{arith}
 use borrow.Author.Needs.{needs}
 use Rattle.bench_lines.proofs.Reading.{not-a-line, facts, whole-octets, hex-behind, lid-is, tick-is, buffer-too-short, whole-line}
+use Rattle.bench_lines.proofs.RoundTrip.{reading-printed}
 use Rattle.bench_lines.proofs.line.read_line.Statement.{statement}
 use Rattle.bench_lines.proofs.line.read_line.Tie as tie
 
@@ -9,7 +11,7 @@ has-form-requires : tie.Need-has-form-requires
 has-form-requires c κs = search needs
 
 returns : tie.Need-returns
-returns c = not-a-line _ _ _ (c .before .has-form .ensures) (c .if1 .taken)
+returns c = (not-a-line _ _ _ (c .before .has-form .ensures) (c .if1 .taken), reading-printed)
 
 find-requires : tie.Need-find-requires
 find-requires c κs = search needs
@@ -21,7 +23,8 @@ sub-octets-2 : tie.Need-sub-octets-2
 sub-octets-2 c = omega (arith, facts _ (c .before .before .has-form .ensures) (c .before .if1 .left) (c .find .ensures) .inside)
 
 returns-2 : tie.Need-returns-2
-returns-2 c = buffer-too-short _ (c .before .before .before .has-form .ensures) (c .before .before .if1 .left) (c .before .find .ensures) _ _ (omega arith)
+returns-2 c =
+    (buffer-too-short _ (c .before .before .before .has-form .ensures) (c .before .before .if1 .left) (c .before .find .ensures) _ _ (omega arith), reading-printed)
 
 number-in-requires : tie.Need-number-in-requires
 number-in-requires c κs = omega (arith, facts _ (c .before .before .before .has-form .ensures) (c .before .before .if1 .left) (c .before .find .ensures) .inside)
@@ -74,9 +77,11 @@ returns-3 c =
     let c5 = c4 .before in
     let c7 = c5 .before .before in
     let c8 = c7 .before in
-    let c9 = c8 .before in
-    whole-line _ (c9 .has-form .ensures) (c8 .if1 .left) (c7 .find .ensures) _ _ (c5 .number-in .ensures) (c4 .number-in2 .ensures) (omega arith)
-    (c2 .put-octets .ensures)
+    let c9 = c8 .before in (
+      whole-line _ (c9 .has-form .ensures) (c8 .if1 .left) (c7 .find .ensures) _ _ (c5 .number-in .ensures) (c4 .number-in2 .ensures) (omega arith)
+          (c2 .put-octets .ensures),
+      reading-printed,
+    )
 
 pub read-line-spec : {M : Type 1} → statement M
 read-line-spec =

@@ -43,10 +43,10 @@ returns c =
     let c6 = c .before .before .before .before .before .before in
     let c10 = c6 .before .before .before .before in
     let c13 = c10 .before .before .before in
-    read-put _ _ _ _ (c13 .before .before .before .read-line .ensures) refl _ _ _ _ _ _ _ _ _ _ _ (c13 .lid .given .1) (c10 .front .ensures) (c6 .join .ensures)
+    read-put _ _ _ _ (c13 .before .before .before .read-line .ensures .0) refl _ _ _ _ _ _ _ _ _ _ _ (c13 .lid .given .1) (c10 .front .ensures) (c6 .join .ensures)
 
 returns-2 : tie.Need-returns-2
-returns-2 c = refused-put _ _ _ _ (c .before .before .before .before .before .read-line .ensures) refl _ _ _ _ _ (c .before .before .number .given .1) (c .no-octets .ensures)
+returns-2 c = refused-put _ _ _ _ (c .before .before .before .before .before .read-line .ensures .0) refl _ _ _ _ _ (c .before .before .number .given .1) (c .no-octets .ensures)
 
 pub take-spec : {M : Type 1} → statement M
 take-spec =
