@@ -24,6 +24,8 @@ class Row:
         self.number = number
         self.says, self.statement, self.holder, self.digest = parts
         self.key = tuple(self.statement.rsplit(':', 1))
+        if self.is_cited() and not re.fullmatch(r'\w+(::\w+)+ \w+', self.holder):
+            raise Unreadable(f'row {number} names no call and clause: "{self.holder}"')
 
     def is_cited(self):
         return not self.holder.startswith(MUST_FAIL) and self.holder != OPEN
