@@ -7,13 +7,11 @@ use Rattle.apdu_format.specs.Table.{layoutOf}
 use Rattle.apdu_format.specs.Rules.{shape, begins, checksOf, present, times, content, brings, announced}
 use Rattle.apdu_format.specs.Reading.{numbersOf, sum, need, fieldsOf, valueAt, octetOf, beginning, faultOf, positionOf, judged, step, through, run, runs, outcome, readFront, alone, readMessage}
 use Rattle.apdu_format.specs.Writing.{fieldBits, fieldsFit, bitsOf, areBits, fits, isValue, putValue, putFirst, put, puts, written, none, inRange, encode, size, encodedOctets, writeRefusal}
-use Rattle.apdu_format.specs.RoundTrip.{unplaced}
 use Rattle.apdu_format.specs.Pictures.{picture, repeated, result, Hold}
 use Rattle.apdu_format.specs.TableCases.{tableCases, TableCasesHold}
 use Rattle.apdu_format.specs.RuleCases.{ruleCases, RuleCasesHold}
 use Rattle.apdu_format.specs.ReadingCases.{readingCases, ReadingCasesHold}
 use Rattle.apdu_format.specs.WritingCases.{writingCases, WritingCasesHold, result as writingResult}
-use Rattle.apdu_format.specs.RoundTripCases.{roundTripCases, RoundTripCasesHold}
 
 pub table-cases-hold : TableCasesHold
 unfolding TableCasesHold Hold tableCases picture result firstOf digits bits number layoutOf shape begins checksOf present times content brings announced numbersOf sum need fieldsOf valueAt octetOf beginning faultOf positionOf judged step through run runs outcome readFront alone readMessage
@@ -30,7 +28,3 @@ reading-cases-hold = refl
 pub writing-cases-hold : WritingCasesHold
 unfolding WritingCasesHold writingCases picture repeated writingResult firstOf digits bits number octets layoutOf shape checksOf present times content brings announced numbersOf through fieldBits fieldsFit bitsOf areBits fits isValue putValue putFirst put puts written none inRange encode size encodedOctets writeRefusal
 writing-cases-hold = refl
-
-pub round-trip-cases-hold : RoundTripCasesHold
-unfolding RoundTripCasesHold roundTripCases picture digits bits unplaced
-round-trip-cases-hold = refl
