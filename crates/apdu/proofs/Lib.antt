@@ -1,3 +1,7 @@
 pub mod Laws
 pub mod Dues
 pub mod Tables
+pub mod ValueCases
+pub mod SoundCases
+pub mod TidyCases
+pub mod RowCounterCases

@@ -1,5 +1,10 @@
 pub mod Values
+pub mod CaseRecords
+pub mod ValueCases
 pub mod Tidy
+pub mod TidyCases
 pub mod Sound
+pub mod SoundCases
 pub mod RowCounters
+pub mod RowCounterCases
 pub mod Tables
