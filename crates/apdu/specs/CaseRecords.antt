@@ -24,45 +24,45 @@ abbrev pub absent : Bool
 absent = false
 
 -- a number
-pub record Field : Type 0 where
+pub record OptionalField : Type 0 where
   pub present : Bool
   pub number : ℕ
 
-abbrev pub field : Bool → ℕ → Field
+abbrev pub field : Bool → ℕ → OptionalField
 field p n = record { present = p; number = n }
 
 -- a string or a list of ids: where it starts, and how many octets or ids it has
-pub record Part : Type 0 where
+pub record OptionalPart : Type 0 where
   pub present : Bool
   pub start : ℕ
   pub count : ℕ
 
-abbrev pub part : Bool → ℕ → ℕ → Part
+abbrev pub part : Bool → ℕ → ℕ → OptionalPart
 part p start n = record { present = p; start = start; count = n }
 
 -- a container: kind, number, start, and the rows that belong to it
-pub record Held : Type 0 where
+pub record OptionalContainer : Type 0 where
   pub present : Bool
   pub kind : ℕ
   pub n : ℕ
   pub start : ℕ
   pub rows : ℕ
 
-abbrev pub held : Bool → (kind n start rows : ℕ) → Held
+abbrev pub held : Bool → (kind n start rows : ℕ) → OptionalContainer
 held p kind n start rows = record { present = p; kind = kind; n = n; start = start; rows = rows }
 
 -- an attribute list: its count, and its rows, nested ones too
-pub record Attributes : Type 0 where
+pub record OptionalList : Type 0 where
   pub present : Bool
   pub count : ℕ
   pub rows : ℕ
 
-abbrev pub attributes : Bool → (count rows : ℕ) → Attributes
+abbrev pub attributes : Bool → (count rows : ℕ) → OptionalList
 attributes p count rows = record { present = p; count = count; rows = rows }
 
 -- ---- messages, their parts in Annex A's order
 
-abbrev pub request : (mode : Bool) (credentials : Part) (parameter : Held) (iid : Field) → Request
+abbrev pub request : (mode : Bool) (credentials : OptionalPart) (parameter : OptionalContainer) (iid : OptionalField) → Request
 request mode credentials parameter iid =
     record {
       mode = mode;
@@ -80,13 +80,13 @@ request mode credentials parameter iid =
       iid = iid .number;
     }
 
-abbrev pub actionRequest : Bool → Part → Held → Field → Message
+abbrev pub actionRequest : Bool → OptionalPart → OptionalContainer → OptionalField → Message
 actionRequest mode credentials parameter iid = kind.ActionRequest (request mode credentials parameter iid)
 
-abbrev pub eventRequest : Bool → Part → Held → Field → Message
+abbrev pub eventRequest : Bool → OptionalPart → OptionalContainer → OptionalField → Message
 eventRequest mode credentials parameter iid = kind.EventRequest (request mode credentials parameter iid)
 
-abbrev pub actionResponse : (fill : ℕ) (iid : Field) (parameter : Held) (ret : Field) → Message
+abbrev pub actionResponse : (fill : ℕ) (iid : OptionalField) (parameter : OptionalContainer) (ret : OptionalField) → Message
 actionResponse fill iid parameter ret =
     kind.ActionResponse (record {
       fill = fill;
@@ -102,18 +102,18 @@ actionResponse fill iid parameter ret =
       ret = ret .number;
     })
 
-abbrev pub response : (fill : ℕ) (iid ret : Field) → Response
+abbrev pub response : (fill : ℕ) (iid ret : OptionalField) → Response
 response fill iid ret =
     record { fill = fill; eid = 5; «has_iid» = iid .present; iid = iid .number; «has_ret» = ret .present; ret = ret .number }
 
-abbrev pub eventResponse : ℕ → Field → Field → Message
+abbrev pub eventResponse : ℕ → OptionalField → OptionalField → Message
 eventResponse fill iid ret = kind.EventResponse (response fill iid ret)
 
-abbrev pub setResponse : ℕ → Field → Field → Message
+abbrev pub setResponse : ℕ → OptionalField → OptionalField → Message
 setResponse fill iid ret = kind.SetResponse (response fill iid ret)
 
 -- its attribute list is always there
-abbrev pub setRequest : (fill : ℕ) (mode : Bool) (credentials : Part) (count rows : ℕ) (iid : Field) → Message
+abbrev pub setRequest : (fill : ℕ) (mode : Bool) (credentials : OptionalPart) (count rows : ℕ) (iid : OptionalField) → Message
 setRequest fill mode credentials count rows iid =
     kind.SetRequest (record {
       fill = fill;
@@ -128,7 +128,7 @@ setRequest fill mode credentials count rows iid =
       iid = iid .number;
     })
 
-abbrev pub getRequest : (fill : ℕ) (credentials : Part) (iid : Field) (ids : Part) → Message
+abbrev pub getRequest : (fill : ℕ) (credentials : OptionalPart) (iid : OptionalField) (ids : OptionalPart) → Message
 getRequest fill credentials iid ids =
     kind.GetRequest (record {
       fill = fill;
@@ -143,7 +143,7 @@ getRequest fill credentials iid ids =
       count = ids .count;
     })
 
-abbrev pub getResponse : (fill : ℕ) (iid : Field) (list : Attributes) (ret : Field) → Message
+abbrev pub getResponse : (fill : ℕ) (iid : OptionalField) (list : OptionalList) (ret : OptionalField) → Message
 getResponse fill iid list ret =
     kind.GetResponse (record {
       fill = fill;
@@ -157,7 +157,7 @@ getResponse fill iid list ret =
       ret = ret .number;
     })
 
-abbrev pub bst : (mandatory : ℕ) (others : Field) (profiles count : ℕ) → Message
+abbrev pub bst : (mandatory : ℕ) (others : OptionalField) (profiles count : ℕ) → Message
 bst mandatory others profiles count =
     kind.Bst (record {
       manufacturer = 0x1234;
@@ -171,7 +171,7 @@ bst mandatory others profiles count =
       «profile_count» = count;
     })
 
-abbrev pub vst : (fill applications : ℕ) (status : Field) → Message
+abbrev pub vst : (fill applications : ℕ) (status : OptionalField) → Message
 vst fill applications status =
     kind.Vst (record {
       fill = fill;
@@ -188,7 +188,7 @@ vst fill applications status =
 abbrev pub row : (id kind n start : ℕ) → Row
 row id kind n start = record { id = id; kind = kind; n = n; start = start }
 
-abbrev pub entry : (aid : ℕ) (eid : Field) (parameter : Held) → Entry
+abbrev pub entry : (aid : ℕ) (eid : OptionalField) (parameter : OptionalContainer) → Entry
 entry aid eid parameter =
     record {
       «has_eid» = eid .present;

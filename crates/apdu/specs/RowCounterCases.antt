@@ -11,7 +11,7 @@ use Rattle.apdu.specs.RowCounters.{levelOf, afterRow, total, dueList}
 abbrev pub due : (d1 d2 d3 d4 d5 : ℕ) → Due
 due d1 d2 d3 d4 d5 = record { d1 = d1; d2 = d2; d3 = d3; d4 = d4; d5 = d5 }
 
-pub record Counted : Type 0 where
+pub record Counts : Type 0 where
   pub level : ℕ
   pub after : Due
   pub total : ℕ
@@ -19,22 +19,22 @@ pub record Counted : Type 0 where
 
 pub record Case : Type 0 where
   pub due : Due
-  pub gives : Counted
+  pub gives : Counts
 
-abbrev pub counted : Due → Counted
+abbrev pub counted : Due → Counts
 counted o = record { level = levelOf o; after = afterRow o 3; total = total o; components = dueList o }
 
-abbrev pub case : Due → ℕ → Due → ℕ → List Component → Case
-case o level after total components = record { due = o; gives = record { level = level; after = after; total = total; components = components } }
+abbrev pub gives : Due → ℕ → Due → ℕ → List Component → Case
+gives o level after total components = record { due = o; gives = record { level = level; after = after; total = total; components = components } }
 
 abbrev pub cases : List Case
 cases =
-    case (due 2 0 0 0 0) 1 (due 1 3 0 0 0) 2 (integer ∷ container 1 ∷ integer ∷ container 1 ∷ [])
-    ∷ case (due 1 2 0 0 0) 2 (due 1 1 3 0 0) 3 (integer ∷ container 2 ∷ integer ∷ container 2 ∷ integer ∷ container 1 ∷ [])
-    ∷ case (due 0 2 1 0 0) 3 (due 0 2 0 3 0) 3 (integer ∷ container 3 ∷ integer ∷ container 2 ∷ integer ∷ container 2 ∷ [])
-    ∷ case (due 0 0 2 1 0) 4 (due 0 0 2 0 3) 3 (integer ∷ container 4 ∷ integer ∷ container 3 ∷ integer ∷ container 3 ∷ [])
+    gives (due 2 0 0 0 0) 1 (due 1 3 0 0 0) 2 (integer ∷ container 1 ∷ integer ∷ container 1 ∷ [])
+    ∷ gives (due 1 2 0 0 0) 2 (due 1 1 3 0 0) 3 (integer ∷ container 2 ∷ integer ∷ container 2 ∷ integer ∷ container 1 ∷ [])
+    ∷ gives (due 0 2 1 0 0) 3 (due 0 2 0 3 0) 3 (integer ∷ container 3 ∷ integer ∷ container 2 ∷ integer ∷ container 2 ∷ [])
+    ∷ gives (due 0 0 2 1 0) 4 (due 0 0 2 0 3) 3 (integer ∷ container 4 ∷ integer ∷ container 3 ∷ integer ∷ container 3 ∷ [])
     -- a row at depth 5 announces none
-    ∷ case (due 1 1 1 1 1) 5 (due 1 1 1 1 0) 5
+    ∷ gives (due 1 1 1 1 1) 5 (due 1 1 1 1 0) 5
     (integer ∷ container 5 ∷ integer ∷ container 4 ∷ integer ∷ container 3 ∷ integer ∷ container 2 ∷ integer ∷ container 1 ∷ [])
     ∷ []
 

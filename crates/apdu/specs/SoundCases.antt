@@ -11,7 +11,7 @@ use Rattle.apdu.specs.declared.lists.Row.{Row}
 use Rattle.apdu.specs.declared.lists.Entry.{Entry}
 use Rattle.apdu.specs.declared.records.Message.{Message}
 use Rattle.apdu.specs.Sound.{sound, wellFormed}
-use Rattle.apdu.specs.CaseRecords.{lent, there, absent, Held, field, part, held, attributes, actionRequest, eventRequest, actionResponse, eventResponse, setResponse, setRequest, getRequest, getResponse, bst, vst, row, entry}
+use Rattle.apdu.specs.CaseRecords.{lent, there, absent, OptionalContainer, field, part, held, attributes, actionRequest, eventRequest, actionResponse, eventResponse, setResponse, setRequest, getRequest, getResponse, bst, vst, row, entry}
 
 pub record Verdict : Type 0 where
   pub sound : Bool
@@ -68,7 +68,7 @@ abbrev pub outsideRow : Row
 outsideRow = row 0x16 2 1 99
 
 -- an entry with its parameter, and one whose parameter is absent
-abbrev pub entryWith : Held → Entry
+abbrev pub entryWith : OptionalContainer → Entry
 entryWith parameter = entry 5 (field there 0x22) parameter
 
 abbrev pub bareEntry : Entry

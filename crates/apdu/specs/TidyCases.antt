@@ -10,7 +10,7 @@ use Rattle.apdu.specs.declared.lists.Entry.{Entry}
 use Rattle.apdu.specs.declared.records.Message.{Message}
 use Rattle.apdu.specs.Values.{emptyRow, emptyEntry}
 use Rattle.apdu.specs.Tidy.{messageTidy}
-use Rattle.apdu.specs.CaseRecords.{there, absent, Field, field, Part, part, Held, held, Attributes, attributes, actionRequest, eventRequest, actionResponse, eventResponse, setResponse, setRequest, getRequest, getResponse, bst, vst, row, entry}
+use Rattle.apdu.specs.CaseRecords.{there, absent, OptionalField, field, OptionalPart, part, OptionalContainer, held, OptionalList, attributes, actionRequest, eventRequest, actionResponse, eventResponse, setResponse, setRequest, getRequest, getResponse, bst, vst, row, entry}
 
 pub record Case : Type 0 where
   pub tidy : Bool
@@ -27,39 +27,39 @@ untidy m es rs = record { tidy = false; message = m; entries = es; rows = rs }
 -- ---- parts
 
 -- absent ones, all 0
-abbrev pub noField : Field
+abbrev pub noField : OptionalField
 noField = field absent 0
 
-abbrev pub noPart : Part
+abbrev pub noPart : OptionalPart
 noPart = part absent 0 0
 
-abbrev pub noHeld : Held
+abbrev pub noHeld : OptionalContainer
 noHeld = held absent 0 0 0 0
 
-abbrev pub noList : Attributes
+abbrev pub noList : OptionalList
 noList = attributes absent 0 0
 
 -- present ones
-abbrev pub iid : Field
+abbrev pub iid : OptionalField
 iid = field there 6
 
-abbrev pub ret : Field
+abbrev pub ret : OptionalField
 ret = field there 7
 
-abbrev pub credentials : Part
+abbrev pub credentials : OptionalPart
 credentials = part there 12 4
 
-abbrev pub ids : Part
+abbrev pub ids : OptionalPart
 ids = part there 4 2
 
 -- a string, and a list of two rows of which the second is a list
-abbrev pub octets : Held
+abbrev pub octets : OptionalContainer
 octets = held there 2 2 4 0
 
-abbrev pub list : Held
+abbrev pub list : OptionalContainer
 list = held there 9 2 0 3
 
-abbrev pub listed : Attributes
+abbrev pub listed : OptionalList
 listed = attributes there 2 3
 
 -- ---- rows and entries
@@ -85,13 +85,13 @@ four = stringRow ∷ listRow ∷ idsRow ∷ eidRow ∷ []
 
 -- eid and list, a string, an eid alone
 abbrev pub listEntry : Entry
-listEntry = entry 1 (field there 8) (held there 9 1 0 1)
+listEntry = entry 11 (field there 8) (held there 9 1 0 1)
 
 abbrev pub stringEntry : Entry
-stringEntry = entry 2 noField (held there 2 1 4 0)
+stringEntry = entry 12 noField (held there 2 1 4 0)
 
 abbrev pub eidEntry : Entry
-eidEntry = entry 3 (field there 9) noHeld
+eidEntry = entry 13 (field there 9) noHeld
 
 -- ---- cases
 
@@ -201,12 +201,12 @@ cases =
     ∷ untidy (vst 0 1 (field there 1)) (listEntry ∷ eidEntry ∷ []) (stringRow ∷ [])
     ∷ untidy (vst 0 1 (field there 1)) (listEntry ∷ []) (stringRow ∷ idsRow ∷ [])
     -- an entry: absent eid and parameter are 0, and only a string and a list of ids have a start
-    ∷ untidy (vst 0 1 noField) (entry 1 (field absent 8) (held there 2 1 4 0) ∷ []) []
-    ∷ untidy (vst 0 1 noField) (entry 1 (field there 8) (held absent 2 0 0 0) ∷ []) []
-    ∷ untidy (vst 0 1 noField) (entry 1 (field there 8) (held absent 0 1 0 0) ∷ []) []
-    ∷ untidy (vst 0 1 noField) (entry 1 (field there 8) (held absent 0 0 4 0) ∷ []) []
-    ∷ untidy (vst 0 1 noField) (entry 1 (field there 8) (held absent 0 0 0 1) ∷ []) []
-    ∷ untidy (vst 0 1 noField) (entry 1 (field there 8) (held there 7 1 4 0) ∷ []) []
+    ∷ untidy (vst 0 1 noField) (entry 11 (field absent 8) (held there 2 1 4 0) ∷ []) []
+    ∷ untidy (vst 0 1 noField) (entry 11 (field there 8) (held absent 2 0 0 0) ∷ []) []
+    ∷ untidy (vst 0 1 noField) (entry 11 (field there 8) (held absent 0 1 0 0) ∷ []) []
+    ∷ untidy (vst 0 1 noField) (entry 11 (field there 8) (held absent 0 0 4 0) ∷ []) []
+    ∷ untidy (vst 0 1 noField) (entry 11 (field there 8) (held absent 0 0 0 1) ∷ []) []
+    ∷ untidy (vst 0 1 noField) (entry 11 (field there 8) (held there 7 1 4 0) ∷ []) []
     ∷ []
 
 -- what is proved: the tidy ones are tidy, the others are not
