@@ -1,4 +1,5 @@
 pub mod Laws
+pub mod Formed
 pub mod Dues
 pub mod Tables
 pub mod ValueCases

@@ -1,13 +1,15 @@
--- What a record must meet besides the ranges of its values (01, row 23): each part of the lent octets lies inside them, and each attribute list has as
--- many rows as its counts announce, nested ones too. Absent fields and unused rows are passed over.
+-- What a record must meet besides the ranges of its values (01, row 23): each part of the lent octets lies inside them; each attribute list has as
+-- many rows as its counts announce, nested ones too; and the rows of what is present, summed over the entries, are at most 32. Absent fields and unused
+-- rows are passed over.
 -- Assumes nothing.
 use Prim.Native.Nat.{ℕ, zero, suc, _+_}
 use mathlib.Core.List.{List, [], _∷_}
 use mathlib.Core.Bool.{Bool, true, false, _&&_}
 use lib.ListN.{length, take, drop}
-use lib.Dec.{eqb}
+use lib.Dec.{eqb, leb}
 use Rattle.refusals.specs.Check.{pick}
 use Rattle.bits.specs.Strings.{isInside}
+use Rattle.apdu_format.specs.Limits.{mostRows}
 use Rattle.apdu_format.specs.Component.{octetString, attributeIdList, attributeList}
 use Rattle.apdu_format.specs.Writing.{inRange}
 use Rattle.apdu.specs.declared.lists.Row.{Row}
@@ -101,6 +103,29 @@ sound octets (kind.GetResponse m) es rs = getResponseSound octets m rs
 sound octets (kind.Bst m) es rs = bstSound octets m es rs
 sound octets (kind.Vst m) es rs = vstSound octets m es rs
 
--- a record that does not break the condition of 23: every value of what is present is in range, and every part and list is sound
+-- ---- the limit of rows
+
+-- so many, if they are there
+abbrev pub countIf : Bool → ℕ → ℕ
+countIf p n = pick p n 0
+
+-- the rows of what is present, summed over the entries
+unfoldable pub rowsPresent : Message → List Entry → ℕ
+rowsPresent (kind.ActionRequest m) es = countIf (m .«has_parameter») (m .rows)
+rowsPresent (kind.ActionResponse m) es = countIf (m .«has_parameter») (m .rows)
+rowsPresent (kind.EventRequest m) es = countIf (m .«has_parameter») (m .rows)
+rowsPresent (kind.EventResponse m) es = 0
+rowsPresent (kind.SetRequest m) es = m .rows
+rowsPresent (kind.SetResponse m) es = 0
+rowsPresent (kind.GetRequest m) es = 0
+rowsPresent (kind.GetResponse m) es = countIf (m .«has_attributes») (m .rows)
+rowsPresent (kind.Bst m) es =
+    rowsOf (take (m .mandatory) es) + countIf (m .«has_others») (rowsOf (take (m .others) (drop (m .mandatory) es)))
+rowsPresent (kind.Vst m) es = rowsOf (take (m .applications) es)
+
+unfoldable pub rowsFit : Message → List Entry → Bool
+rowsFit m es = leb (rowsPresent m es) mostRows
+
+-- a record that does not break the condition of 23: every value of what is present is in range, every part and list is sound, and the rows keep the limit
 unfoldable pub wellFormed : List ℕ → Message → List Entry → List Row → Bool
-wellFormed s m es rs = inRange (valuesOf s m es rs) && sound (length s) m es rs
+wellFormed s m es rs = inRange (valuesOf s m es rs) && (sound (length s) m es rs && rowsFit m es)

@@ -14,7 +14,8 @@ pub struct Row {
     pub start: u32,
 }
 
-// An application entry; kind, n and start are its parameter, and rows tells how many of the message's rows belong to it, nested ones too.
+// An application entry; kind, n and start are its parameter, and rows tells how many of the message's rows belong to it, nested ones too. The entries of
+// a message have at most 32 rows together, and 23 is given above; one without a parameter has none.
 pub struct Entry {
     pub has_eid: bool,
     pub has_parameter: bool,

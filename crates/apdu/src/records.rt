@@ -1,4 +1,5 @@
-// The ten messages. Where a field may be absent, has_.. tells whether it is there. `rows` counts the attribute rows of the message, nested ones too.
+// The ten messages. Where a field may be absent, has_.. tells whether it is there. `rows` counts the attribute rows of the message, nested ones too: at
+// most 32 where the list is there, and 23 above. A BST and a VST have the rows of their entries.
 
 // Action or event request: `service` is the action's or the event's type.
 pub struct Request {

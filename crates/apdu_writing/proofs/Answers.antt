@@ -25,7 +25,7 @@ use Rattle.apdu.specs.declared.lists.Entry.{Entry}
 use Rattle.apdu.specs.declared.records.Message.{Message}
 use Rattle.apdu.specs.Values.{valuesOf}
 use Rattle.apdu_writing.specs.declared.quill.Quill.{Quill}
-use Rattle.apdu.specs.Sound.{sound, wellFormed}
+use Rattle.apdu.specs.Sound.{sound, rowsFit, wellFormed}
 use Rattle.apdu_writing.specs.Quill.{quill, far, least, penAt, writes, Goes, Stops, Puts}
 use Rattle.apdu_writing.specs.Answer.{Answer, refused, refusedAt, writeRefusal, answered, writeAnswer, writeOutput}
 use Rattle.apdu_writing.specs.Answer.{octets as so-many}
@@ -125,7 +125,7 @@ module _ (s : List ℕ) (m : Message) (es : List Entry) (rs : List Row) (out : L
   abbrev Told : Answer → List ℕ → Type 0
   Told a o = (a ≡ writeAnswer s m es rs (length out)) × (o ≡ writeOutput s m es rs out)
 
-  module _ {r : Quill} {o o' : List ℕ} (p : Puts (sound (length s) m es rs) (choice ∷ []) startQuill r o o' (valuesOf s m es rs)) where
+  module _ {r : Quill} {o o' : List ℕ} (p : Puts (sound (length s) m es rs && rowsFit m es) (choice ∷ []) startQuill r o o' (valuesOf s m es rs)) where
     formed : r .ok ≡ true → wellFormed s m es rs ≡ true
     unfolding wellFormed
     formed h = in-range p h

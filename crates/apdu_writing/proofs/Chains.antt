@@ -8,18 +8,20 @@ use mathlib.Core.Logic.{_⊎_, inl, inr}
 use native.Mathlib.Nat.{add-assoc}
 use native.Mathlib.Omega.{arith}
 use lib.ListN.{length, length-append}
-use lib.Dec.{ltb}
-use borrow.Author.Tests.{ltb-true, ltb-false}
+use lib.Dec.{ltb, leb}
+use borrow.Author.Tests.{ltb-true, ltb-false, le-leb, lt-leb}
 use Rattle.refusals.proofs.Tests.{by-test, by-cases, and-true, and-left, and-right}
+use Rattle.apdu.proofs.Laws.{and-unit}
 use Rattle.bits.specs.Bits.{Octets, putBits}
 use Rattle.bits.proofs.Laws.{below-nil, below-append}
 use Rattle.bits.proofs.Put.{length-put, put-small, put-append, put-none}
+use Rattle.apdu_format.specs.Limits.{mostRows}
 use Rattle.apdu_format.specs.Component.{Component}
 use Rattle.apdu_format.specs.Reading.{Value}
 use Rattle.apdu_format.specs.Writing.{Pen}
-use Rattle.apdu_format.proofs.Tests.{never}
+use Rattle.apdu_format.proofs.Tests.{never, both}
 use Rattle.apdu_writing.specs.declared.quill.Quill.{Quill}
-use Rattle.apdu_writing.specs.Quill.{far, least, penAt, writes, Goes, Stops, Moves, Puts}
+use Rattle.apdu_writing.specs.Quill.{quill, far, least, halted, limited, penAt, writes, Goes, Stops, Moves, Puts}
 use Rattle.apdu_writing.proofs.Levels.{writes-append, writes-dead}
 
 -- ---- places
@@ -139,3 +141,49 @@ nothing is c o =
 -- nothing is written any more
 pub idle : {s : Bool} {is js : List Component} {c r : Quill} {o o' : List ℕ} {vs : List Value} → c .ok ≡ false → r .ok ≡ false → Moves s is js c r o o' vs
 idle n m = record { good = λ h. never (sym m ∙ h); bad = λ h k. never (sym n ∙ k) }
+
+-- ---- the limit of rows
+
+pub limited-fits : {n : ℕ} {c : Quill} → n ≤ mostRows → c ≡ limited n c
+unfolding limited
+limited-fits {n} {c} h = rw (le-leb n mostRows h, and-unit (c .ok))
+
+pub limited-breaks : {n : ℕ} (c : Quill) {r : Quill} → mostRows < n → r ≡ halted c → r ≡ limited n c
+unfolding limited
+limited-breaks {n} c h e = e ∙ rw (lt-leb n mostRows h, and-right (c .ok) refl)
+
+limited-stopped : (n : ℕ) {c : Quill} → c .ok ≡ false → c ≡ limited n c
+unfolding limited
+limited-stopped n h = rw h
+
+-- n rows, as many as are counted where all so far is in range, keep the limit or stop the writing
+module _ {s : Bool} {is js : List Component} {c q : Quill} {o o' : List ℕ} {vs : List Value} (p : Moves s is js c q o o' vs) where
+  pub limit : {n : ℕ} (used : ℕ) → (q .ok ≡ true → used ≡ n) → {r : Quill} → r ≡ limited used q → Moves (s && leb n mostRows) is js c r o o' vs
+  unfolding limited
+  limit {n} used same e =
+      rw e
+      (record {
+        good = λ h.
+            let a = both (q .ok) (leb used mostRows) h in
+            let g = p .good (a .0) in
+            record {
+              holds = and-true (g .holds) (ap (λ (k : ℕ). leb k mostRows) (sym (same (a .0))) ∙ a .1);
+              came = g .came;
+              w = g .w;
+              small = g .small;
+              so = g .so;
+              k = g .k;
+              whole = g .whole;
+              to = g .to;
+              ink = g .ink;
+            };
+        bad = λ h k. by-cases (q .ok) (λ g. inl (and-right s (ap (λ (k : ℕ). leb k mostRows) (sym (same g)) ∙ (rw g at h)))) (λ g. stops (p .bad g k));
+      })
+    where
+      stops : (s ≡ false) ⊎ Stops is (c .room) vs → ((s && leb n mostRows) ≡ false) ⊎ Stops is (c .room) vs
+      stops (inl x) = inl (and-left (leb n mostRows) x)
+      stops (inr x) = inr x
+
+  -- what is stopped already
+  pub limit-stopped : (n : ℕ) → q .ok ≡ false → Moves (s && leb n mostRows) is js c q o o' vs
+  limit-stopped n h = limit n (λ g. refl) (limited-stopped n h)

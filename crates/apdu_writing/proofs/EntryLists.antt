@@ -8,10 +8,11 @@ use native.Mathlib.Omega.{arith}
 use native.Mathlib.Numerals.{add-one}
 use lib.ListN.{length, take, drop, getD, length-drop}
 use lib.Seq.{take-suc, take-all, drop-drop, length-take-le, getD-take, getD-drop}
-use lib.Dec.{ltb}
+use lib.Dec.{ltb, leb}
 use borrow.Author.Tests.{ltb-true, not-true, not-false}
 use Rattle.refusals.specs.Check.{firstOf}
 use Rattle.bits.specs.Bits.{writeField}
+use Rattle.apdu_format.specs.Limits.{mostRows}
 use Rattle.apdu_format.specs.Component.{integer, entry, entryCount, container}
 use Rattle.apdu_format.specs.Rules.{shape, checksOf, brings, announced, when, times, isSet}
 use Rattle.apdu_format.specs.Reading.{fields, numbersOf, sum}
@@ -24,9 +25,9 @@ use Rattle.apdu.proofs.Laws.{and-unit, own-values, rows-of-snoc, entries-snoc, 
 use Rattle.apdu_writing.specs.declared.quill.Quill.{Quill}
 use Rattle.apdu_writing.specs.declared.entries.EntriesPut.{EntriesPut}
 use Rattle.apdu.specs.Sound.{soundIf, containerSound, entrySound, entriesSound}
-use Rattle.apdu_writing.specs.Quill.{Put, Moves, Puts, Small}
-use Rattle.apdu_writing.specs.Applications.{Listed, Lists}
-use Rattle.apdu_writing.proofs.Chains.{nothing, idle, then, and-then, before}
+use Rattle.apdu_writing.specs.Quill.{limited, Put, Moves, Puts, Small}
+use Rattle.apdu_writing.specs.Applications.{Listed, listRows, Lists}
+use Rattle.apdu_writing.proofs.Chains.{nothing, idle, then, and-then, before, limit, limit-stopped}
 use Rattle.apdu_writing.proofs.Leaves.{packed, leaf, in-number}
 use Rattle.apdu_writing.proofs.Leads.{is-set, bit-fits}
 use Rattle.apdu_writing.proofs.Components.{there-sound, absent-sound}
@@ -132,20 +133,39 @@ module _ (s : List ℕ) (es : List Entry) (n : ℕ) (p : Bool) (k : ℕ) (rs : L
   one-stopped : t .quill .ok ≡ false → Lists s es n p k rs c (t .quill) o o₁
   one-stopped h = record { between = t .quill; half = o₁; first = first-list; second = idle h h }
 
-  one-list : p ≡ false → Lists s es n p k rs c (t .quill) o o₁
-  one-list h = record { between = t .quill; half = o₁; first = first-list; second = absent-sound _ _ _ _ p h _ }
+  one-list : p ≡ false → {r : Quill} → r ≡ limited (t .used) (t .quill) → Lists s es n p k rs c r o o₁
+  one-list h e =
+      record {
+        between = t .quill;
+        half = o₁;
+        first = first-list;
+        second = limit (absent-sound _ _ _ _ p h _) {n = listRows es n p k} (t .used) (λ g. let u = l .used g in rw h (omega arith)) e;
+      }
 
-  two-lists : {u : EntriesPut} {o₂ : List ℕ} → p ≡ true → t .quill .ok ≡ true → Listed s es n k rs (t .used) (t .quill) u o₁ o₂ → Lists s es n p k rs c (u .quill) o o₂
-  two-lists {u = u} {o₂ = o₂} h came m =
-      let fs = take n es in
-      let es₂ = take k (drop n es) in
-      let rs₂ = drop (rowsOf fs) rs in
-      let e : t .used ≡ rowsOf fs = l .used came ∙ none (rowsOf fs) in
-      let more : Puts (entriesSound (length s) es₂ rs₂) (entryCount ∷ []) (t .quill) (u .quill) o₁ o₂ (listValues s k es₂ rs₂) = rw (← own-values s es₂ rs₂) (rw e at (m .so)) in
-      record { between = t .quill; half = o₁; first = first-list; second = there-sound p h more }
-    where
-      none : (n : ℕ) → 0 + n ≡ n
-      none n = omega arith
+  module _ {u : EntriesPut} {o₂ : List ℕ} (h : p ≡ true) (came : t .quill .ok ≡ true) (m : Listed s es n k rs (t .used) (t .quill) u o₁ o₂) where
+    abbrev es₂ : List Entry
+    es₂ = take k (drop n es)
+
+    abbrev rs₂ : List Row
+    rs₂ = drop (rowsOf (take n es)) rs
+
+    used-before : t .used ≡ rowsOf (take n es)
+    used-before = let e = l .used came in omega arith
+
+    used-both : u .quill .ok ≡ true → u .used ≡ listRows es n p k
+    used-both g = let a = used-before in let e = m .used g in rw h (omega arith)
+
+    second-list : Puts (soundIf p (entriesSound (length s) es₂ rs₂)) (when p (entryCount ∷ [])) (t .quill) (u .quill) o₁ o₂ (if p (listValues s k es₂ rs₂))
+    second-list =
+        let more : Puts (entriesSound (length s) es₂ rs₂) (entryCount ∷ []) (t .quill) (u .quill) o₁ o₂ (listValues s k es₂ rs₂) =
+        rw (← own-values s es₂ rs₂) (rw used-before at (m .so)) in
+        there-sound p h more
+
+    two-lists : {r : Quill} → r ≡ limited (u .used) (u .quill) → Lists s es n p k rs c r o o₂
+    two-lists e = record { between = t .quill; half = o₁; first = first-list; second = limit second-list (u .used) used-both e }
+
+    two-stopped : u .quill .ok ≡ false → Lists s es n p k rs c (u .quill) o o₂
+    two-stopped g = record { between = t .quill; half = o₁; first = first-list; second = limit-stopped second-list (listRows es n p k) g }
 
 -- the next list is the first; or it is the second and the last
 pub data Stage (s : List ℕ) (es : List Entry) (n : ℕ) (p : Bool) (k : ℕ) (rs : List Row) (c : Quill) (o : List ℕ) (more : Bool) (from count used : ℕ) (q : Quill) (o₁ : List ℕ) : Type 0 where
@@ -163,11 +183,12 @@ module _ {s : List ℕ} {es : List Entry} {n : ℕ} {p : Bool} {k : ℕ} {rs : L
   module _ {t : EntriesPut} {o₂ : List ℕ} where
     pub stage-stopped : Stage s es n p k rs c o more from count used q o₁ → Listed s es from count rs used q t o₁ o₂ → not (t .quill .ok) ≡ true → Lists s es n p k rs c (t .quill) o o₂
     stage-stopped (begins a b d e f g) m h = one-stopped s es n p k rs (rw (b, d, e, f, g) at m) (not-true (t .quill .ok) h)
-    stage-stopped (goes-on a b d e f l) m h = two-lists s es n p k rs l a f (rw (d, e) at m)
+    stage-stopped (goes-on a b d e f l) m h = two-stopped s es n p k rs l a f (rw (d, e) at m) (not-true (t .quill .ok) h)
 
-    pub stage-last : Stage s es n p k rs c o more from count used q o₁ → Listed s es from count rs used q t o₁ o₂ → not more ≡ true → Lists s es n p k rs c (t .quill) o o₂
-    stage-last (begins a b d e f g) m h = one-list s es n p k rs (rw (b, d, e, f, g) at m) (sym a ∙ not-true more h)
-    stage-last (goes-on a b d e f l) m h = two-lists s es n p k rs l a f (rw (d, e) at m)
+    pub stage-last : Stage s es n p k rs c o more from count used q o₁ → Listed s es from count rs used q t o₁ o₂ → not more ≡ true
+        → {r : Quill} → r ≡ limited (t .used) (t .quill) → Lists s es n p k rs c r o o₂
+    stage-last (begins a b d e f g) m h z = one-list s es n p k rs (rw (b, d, e, f, g) at m) (sym a ∙ not-true more h) z
+    stage-last (goes-on a b d e f l) m h z = two-lists s es n p k rs l a f (rw (d, e) at m) z
 
     pub stage-next : Stage s es n p k rs c o more from count used q o₁ → Listed s es from count rs used q t o₁ o₂ → not (t .quill .ok) ≡ false → not more ≡ false
         → Stage s es n p k rs c o false n k (t .used) (t .quill) o₂

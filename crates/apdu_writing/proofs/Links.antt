@@ -6,14 +6,16 @@ use mathlib.Core.List.{List, [], _∷_, _++_}
 use mathlib.Core.Bool.{Bool, true, false, _&&_, not}
 use native.Mathlib.Omega.{arith}
 use denote.Enum.Declared as Declared
-use lib.ListN.{length, take}
-use lib.Dec.{T, ltb}
+use lib.ListN.{length, take, drop}
+use lib.Dec.{T, ltb, leb}
 use mir.Val.{hasKey}
 use types.Run.{OneOf, miss}
 use borrow.Author.Tests.{ltb-true}
 use Rattle.refusals.specs.Check.{firstOf}
+use Rattle.refusals.proofs.Tests.{and-right}
 use Rattle.bits.specs.Bits.{writeField}
 use Rattle.bits.specs.Strings.{isInside}
+use Rattle.apdu_format.specs.Limits.{mostRows}
 use Rattle.apdu_format.specs.Component.{choice, integer, fixed, class, entryCount, idCount}
 use Rattle.apdu_format.specs.Table.{layoutOf}
 use Rattle.apdu_format.specs.Rules.{shape, checksOf, brings, announced, present, when, isSet}
@@ -27,13 +29,13 @@ use Rattle.apdu.specs.declared.records.Vst.{Vst}
 use Rattle.apdu.specs.declared.records.Message.{Message}
 use Rattle.apdu.specs.declared.records.Message.the-variants as kind
 use Rattle.apdu.proofs.records.Message as message
-use Rattle.apdu.specs.Values.{bitOf, num, if, idList, bstValues, vstValues}
+use Rattle.apdu.specs.Values.{bitOf, num, if, idList, rowsOf, bstValues, vstValues}
 use Rattle.apdu.proofs.Laws.{and-unit, own-sound}
-use Rattle.apdu.specs.Sound.{entriesSound, bstSound, vstSound}
+use Rattle.apdu.specs.Sound.{soundIf, entriesSound, bstSound, vstSound, rowsPresent, rowsFit}
 use Rattle.apdu_writing.specs.declared.quill.Quill.{Quill}
 use Rattle.apdu_writing.specs.declared.link.LinkFront.{LinkFront}
 use Rattle.apdu_writing.specs.Quill.{Put, Moves, Puts, Small}
-use Rattle.apdu_writing.specs.Applications.{Lists}
+use Rattle.apdu_writing.specs.Applications.{listRows, Lists}
 use Rattle.apdu_writing.specs.Link.{bstFront, vstFront, configured, FrontPut, ByKind, LinkFrontPut, LinkTailPut, LinkPut}
 use Rattle.apdu_writing.proofs.Chains.{nothing, then, before, and-then}
 use Rattle.apdu_writing.proofs.Leaves.{packed, leaf, in-number}
@@ -144,18 +146,33 @@ module _ (m : Bst) where
 
 -- ---- the whole
 
+-- the limit of rows is kept with the second list, and is said behind all of them
+limit-behind : (a b fits d : Bool) → (a && ((b && fits) && (d && true))) ≡ ((a && (b && d)) && fits)
+limit-behind false b fits d = refl
+limit-behind true false fits d = refl
+limit-behind true true true d = refl
+limit-behind true true false d = sym (and-right d refl)
+
 module _ (s : List ℕ) (m : Vst) (es : List Entry) (rs : List Row) where
   vst-by : {c h r : Quill} {f : LinkFront} {o o₁ o₂ o₃ : List ℕ} → FrontPut (m .applications) false 0 (class ∷ []) c f o o₁ (vstFront m)
       → Lists s es (f .first) (f .two) (f .second) rs (f .quill) h o₁ o₂ → Puts true (class ∷ []) h r o₂ o₃ (configured m)
-      → Puts (vstSound (length s) m es rs) (choice ∷ []) c r o o₃ (fields (9 ∷ []) ∷ vstValues s m es rs)
-  unfolding vstSound vstValues
+      → Puts (vstSound (length s) m es rs && rowsFit (kind.Vst m) es) (choice ∷ []) c r o o₃ (fields (9 ∷ []) ∷ vstValues s m es rs)
+  unfolding vstSound vstValues rowsFit rowsPresent
   vst-by {h = h} {r = r} {f = f} {o₁ = o₁} {o₂ = o₂} {o₃ = o₃} a b g =
       let l : Lists s es (m .applications) false 0 rs (f .quill) h o₁ o₂ = rw (a .first, a .two, a .second) at b in
-      rw (← and-unit (entriesSound (length s) (take (m .applications) es) rs)) (then (a .so) (and-then (l .first) (and-then (l .second) (and-then g (nothing [] r o₃)))))
+      let z : listRows es (m .applications) false 0 ≡ rowsPresent (kind.Vst m) es = omega arith in
+      let e : leb (listRows es (m .applications) false 0) mostRows ≡ rowsFit (kind.Vst m) es = ap (λ (n : ℕ). leb n mostRows) z in
+      rw (← e, ← and-unit (leb (listRows es (m .applications) false 0) mostRows)) (then (a .so) (and-then (l .first) (and-then (l .second) (and-then g (nothing [] r o₃)))))
 
 module _ (s : List ℕ) (m : Bst) (es : List Entry) (rs : List Row) where
   abbrev first : List Entry
   first = take (m .mandatory) es
+
+  abbrev S₁ : Bool
+  S₁ = entriesSound (length s) first rs
+
+  abbrev S₂ : Bool
+  S₂ = soundIf (m .«has_others») (entriesSound (length s) (take (m .others) (drop (m .mandatory) es)) (drop (rowsOf first) rs))
 
   abbrev S₃ : Bool
   S₃ = isInside (length s) (m .profiles) (m .«profile_count»)
@@ -163,11 +180,11 @@ module _ (s : List ℕ) (m : Bst) (es : List Entry) (rs : List Row) where
   bst-by : {c h r : Quill} {f : LinkFront} {o o₁ o₂ o₃ : List ℕ}
       → FrontPut (m .mandatory) (m .«has_others») (m .others) (idCount ∷ []) c f o o₁ (bstFront m)
       → Lists s es (f .first) (f .two) (f .second) rs (f .quill) h o₁ o₂ → Puts S₃ (idCount ∷ []) h r o₂ o₃ (idList s (m .profiles) (m .«profile_count»))
-      → Puts (bstSound (length s) m es rs) (choice ∷ []) c r o o₃ (fields (8 ∷ []) ∷ bstValues s m es rs)
-  unfolding bstSound bstValues
+      → Puts (bstSound (length s) m es rs && rowsFit (kind.Bst m) es) (choice ∷ []) c r o o₃ (fields (8 ∷ []) ∷ bstValues s m es rs)
+  unfolding bstSound bstValues rowsFit rowsPresent
   bst-by {h = h} {r = r} {f = f} {o₁ = o₁} {o₂ = o₂} {o₃ = o₃} a b g =
       let l : Lists s es (m .mandatory) (m .«has_others») (m .others) rs (f .quill) h o₁ o₂ = rw (a .first, a .two, a .second) at b in
-      rw (← own-sound (length s) first rs, ← and-unit S₃) (then (a .so) (and-then (l .first) (and-then (l .second) (and-then g (nothing [] r o₃)))))
+      rw (← own-sound (length s) first rs, ← limit-behind S₁ S₂ (rowsFit (kind.Bst m) es) S₃) (then (a .so) (and-then (l .first) (and-then (l .second) (and-then g (nothing [] r o₃)))))
 
 pub link-by : (s : List ℕ) (m : Message) (es : List Entry) (rs : List Row) {c h r : Quill} {f : LinkFront} {o o₁ o₂ o₃ : List ℕ} → LinkFrontPut m c f o o₁
     → Lists s es (f .first) (f .two) (f .second) rs (f .quill) h o₁ o₂ → LinkTailPut s m h r o₂ o₃ → LinkPut s m es rs c r o o₃

@@ -11,15 +11,15 @@ use lib.Dec.{ltb}
 use borrow.Author.Tests.{ltb-true, ltb-false}
 use Rattle.refusals.proofs.Tests.{by-cases}
 use Rattle.apdu_format.specs.Limits.{longestMessage}
-use Rattle.apdu_format.specs.Writing.{inRange, size, encodedOctets}
+use Rattle.apdu_format.specs.Writing.{size, encodedOctets}
 use Rattle.apdu_format.specs.RoundTrip.{ReadAs}
-use Rattle.apdu_format.proofs.Tests.{both}
 use Rattle.apdu_format.proofs.RoundTrip.{encoded, read-written}
 use Rattle.apdu.specs.declared.lists.Row.{Row}
 use Rattle.apdu.specs.declared.lists.Entry.{Entry}
 use Rattle.apdu.specs.declared.records.Message.{Message}
 use Rattle.apdu.specs.Values.{valuesOf}
-use Rattle.apdu.specs.Sound.{sound, wellFormed}
+use Rattle.apdu.specs.Sound.{wellFormed}
+use Rattle.apdu.proofs.Formed.{formed-ranges}
 use Rattle.apdu_writing.specs.Answer.{writeRefusal}
 use Rattle.apdu_writing.proofs.Answers.{refusal-23, refusal-21}
 
@@ -27,14 +27,10 @@ module _ (s : List ℕ) (m : Message) (es : List Entry) (rs : List Row) (out : L
   formed : wellFormed s m es rs ≡ true
   formed = by-cases (wellFormed s m es rs) (λ h. h) (λ h. absurd (omega (arith, refusal-23 s m es rs out h)))
 
-  ranges : inRange (valuesOf s m es rs) ≡ true
-  unfolding wellFormed
-  ranges = both (inRange (valuesOf s m es rs)) (sound (length s) m es rs) formed .0
-
   short : size (valuesOf s m es rs) ≤ longestMessage
   short =
       by-cases (ltb longestMessage (size (valuesOf s m es rs))) (λ h. absurd (omega (arith, refusal-21 s m es rs out formed (ltb-true _ _ h)))) (λ h. ltb-false _ _ h)
 
   -- what is written is read as the same message
   pub written-reads : ReadAs (encodedOctets (valuesOf s m es rs)) (valuesOf s m es rs)
-  written-reads = read-written (encodedOctets (valuesOf s m es rs)) (valuesOf s m es rs) (encoded (valuesOf s m es rs) ranges short)
+  written-reads = read-written (encodedOctets (valuesOf s m es rs)) (valuesOf s m es rs) (encoded (valuesOf s m es rs) (formed-ranges s m es rs formed) short)

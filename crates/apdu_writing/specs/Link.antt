@@ -3,7 +3,7 @@
 use Prim.Native.Nat.{ℕ}
 use mathlib.Core.Path.{_≡_}
 use mathlib.Core.List.{List, [], _∷_, _++_}
-use mathlib.Core.Bool.{Bool, true, false}
+use mathlib.Core.Bool.{Bool, true, false, _&&_}
 use lib.ListN.{length}
 use Rattle.bits.specs.Strings.{isInside}
 use Rattle.apdu_format.specs.Component.{Component, choice, class, entryCount, idCount}
@@ -16,7 +16,7 @@ use Rattle.apdu.specs.declared.records.Vst.{Vst}
 use Rattle.apdu.specs.declared.records.Message.{Message}
 use Rattle.apdu.specs.declared.records.Message.the-variants as kind
 use Rattle.apdu.specs.Values.{bitOf, num, if, idList, bstValues, vstValues}
-use Rattle.apdu.specs.Sound.{bstSound, vstSound}
+use Rattle.apdu.specs.Sound.{bstSound, vstSound, rowsFit}
 use Rattle.apdu_writing.specs.declared.quill.Quill.{Quill}
 use Rattle.apdu_writing.specs.declared.link.LinkFront.{LinkFront}
 use Rattle.apdu_writing.specs.Quill.{Moves, Puts}
@@ -59,5 +59,5 @@ LinkTailPut s m c r o o' =
 -- a whole message
 abbrev pub LinkPut : List ℕ → Message → List Entry → List Row → Quill → Quill → List ℕ → List ℕ → Type 0
 LinkPut s m es rs c r o o' =
-    ByKind (λ x. Puts (bstSound (length s) x es rs) (choice ∷ []) c r o o' (fields (8 ∷ []) ∷ bstValues s x es rs))
-    (λ x. Puts (vstSound (length s) x es rs) (choice ∷ []) c r o o' (fields (9 ∷ []) ∷ vstValues s x es rs)) m
+    ByKind (λ x. Puts (bstSound (length s) x es rs && rowsFit (kind.Bst x) es) (choice ∷ []) c r o o' (fields (8 ∷ []) ∷ bstValues s x es rs))
+    (λ x. Puts (vstSound (length s) x es rs && rowsFit (kind.Vst x) es) (choice ∷ []) c r o o' (fields (9 ∷ []) ∷ vstValues s x es rs)) m

@@ -6,9 +6,10 @@ use mathlib.Core.List.{List, [], _++_}
 use mathlib.Core.Bool.{Bool, true, false, _&&_}
 use mathlib.Core.Logic.{_⊎_}
 use lib.ListN.{length}
-use lib.Dec.{ltb}
+use lib.Dec.{ltb, leb}
 use Rattle.refusals.specs.Check.{pick}
 use Rattle.bits.specs.Bits.{Bits, Octets, putBits}
+use Rattle.apdu_format.specs.Limits.{mostRows}
 use Rattle.apdu_format.specs.Component.{Component}
 use Rattle.apdu_format.specs.Table.{layoutOf}
 use Rattle.apdu_format.specs.Rules.{knownKind}
@@ -40,6 +41,10 @@ pub record Put (k : ℕ) (fine : Bool) (c r : Quill) (x o o' : List ℕ) : Type 
 
 abbrev pub halted : Quill → Quill
 halted c = quill (c .at) (c .room) false
+
+-- the quill behind so many rows, which keep the limit or stop it
+unfoldable pub limited : ℕ → Quill → Quill
+limited n c = quill (c .at) (c .room) (c .ok && leb n mostRows)
 
 unfoldable pub spent : ℕ → Quill → Quill
 spent n c = quill (c .at) (c .room - n) (c .ok)

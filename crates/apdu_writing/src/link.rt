@@ -15,6 +15,7 @@ use crate::kinds::bit;
 use crate::kinds::small;
 use crate::quill::Quill;
 use crate::quill::put;
+use crate::rows::within;
 use apdu::Bst;
 use apdu::Entry;
 use apdu::Message;
@@ -119,7 +120,7 @@ fn link_tail(lent: &[u8], m: Message, out: &mut [u8], c: Quill) -> Quill
     }
 }
 
-// A list of n entries, and behind it, if p, one of k entries. The one call of `applications` is inlined: a call would copy both arrays.
+// A list of n entries, and behind it, if p, one of k entries: their rows together keep the limit. The one call of `applications` is inlined: a call would copy both arrays.
 fn entry_lists(
     lent: &[u8],
     list: [Entry; 32],
@@ -145,7 +146,7 @@ fn entry_lists(
             return q;
         }
         if !more {
-            return q;
+            return within(true, used, q);
         }
         from = n as usize;
         count = k;

@@ -1,10 +1,11 @@
 // A message of any kind.
+ghost use mathlib.Core.Bool.{_&&_};
 ghost use mathlib.Core.List.{[], _∷_};
 ghost use lib.ListN.{length};
 ghost use Rattle.apdu_format.specs.Component.{choice};
 ghost use Rattle.apdu.specs.Values.{valuesOf};
 ghost use Rattle.apdu_writing.specs.Quill.{Puts};
-ghost use Rattle.apdu.specs.Sound.{sound};
+ghost use Rattle.apdu.specs.Sound.{sound, rowsFit};
 use crate::kinds::action_response;
 use crate::kinds::get_request;
 use crate::kinds::get_response;
@@ -13,6 +14,7 @@ use crate::kinds::response;
 use crate::kinds::set_request;
 use crate::link::link_message;
 use crate::quill::Quill;
+use crate::rows::within;
 use apdu::Entry;
 use apdu::Message;
 use apdu::Row;
@@ -26,17 +28,32 @@ pub(crate) fn put_message(
     out: &mut [u8],
     c: Quill,
 ) -> Quill
-    ensures { λ r. ⌜ Puts (sound (length (now (lent .entry))) m list table) (choice ∷ []) c r (now (out .entry)) (now (out .exit)) (valuesOf (now (lent .entry)) m list table) ⌝ }
+    ensures { λ r. ⌜ Puts (sound (length (now (lent .entry))) m list table && rowsFit m list) (choice ∷ []) c r (now (out .entry)) (now (out .exit)) (valuesOf (now (lent .entry)) m list table) ⌝ }
 {
     match m {
-        Message::ActionRequest(x) => request(0, lent, x, table, out, c),
-        Message::ActionResponse(x) => action_response(lent, x, table, out, c),
-        Message::EventRequest(x) => request(2, lent, x, table, out, c),
+        Message::ActionRequest(x) => {
+            let q = request(0, lent, x, table, out, c);
+            within(x.has_parameter, x.rows, q)
+        }
+        Message::ActionResponse(x) => {
+            let q = action_response(lent, x, table, out, c);
+            within(x.has_parameter, x.rows, q)
+        }
+        Message::EventRequest(x) => {
+            let q = request(2, lent, x, table, out, c);
+            within(x.has_parameter, x.rows, q)
+        }
         Message::EventResponse(x) => response(3, x, out, c),
-        Message::SetRequest(x) => set_request(lent, x, table, out, c),
+        Message::SetRequest(x) => {
+            let q = set_request(lent, x, table, out, c);
+            within(true, x.rows, q)
+        }
         Message::SetResponse(x) => response(5, x, out, c),
         Message::GetRequest(x) => get_request(lent, x, out, c),
-        Message::GetResponse(x) => get_response(lent, x, table, out, c),
+        Message::GetResponse(x) => {
+            let q = get_response(lent, x, table, out, c);
+            within(x.has_attributes, x.rows, q)
+        }
         _ => link_message(lent, m, list, table, out, c),
     }
 }

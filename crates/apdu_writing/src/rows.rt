@@ -4,9 +4,9 @@ ghost use Prim.Native.Nat.{_-_};
 ghost use lib.ListN.{length, take, drop};
 ghost use lib.Dec.{eqb};
 ghost use Rattle.apdu.specs.Values.{rowsValues};
-ghost use Rattle.apdu_writing.specs.Quill.{Puts, halted};
+ghost use Rattle.apdu_writing.specs.Quill.{Puts, halted, limited};
 ghost use Rattle.apdu.specs.RowCounters.{total, dueList};
-ghost use Rattle.apdu.specs.Sound.{rowsSound};
+ghost use Rattle.apdu.specs.Sound.{rowsSound, countIf};
 use crate::container::next_row;
 use crate::quill::Quill;
 use apdu::Due;
@@ -40,6 +40,18 @@ pub(crate) fn halt(c: Quill) -> Quill
         room: c.room,
         ok: false,
     }
+}
+
+// The quill behind so many rows, if they are there: it stops where they pass the limit of a message.
+pub(crate) fn within(p: bool, rows: usize, c: Quill) -> Quill
+    ensures { λ r. ⌜ r ≡ limited (countIf p rows) c ⌝ }
+{
+    if p {
+        if apdu::MOST_ROWS < rows as u64 {
+            return halt(c);
+        }
+    }
+    c
 }
 
 // The `count` rows of the table from `first` on, which are those that are due.

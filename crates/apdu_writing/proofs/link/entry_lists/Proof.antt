@@ -25,11 +25,14 @@ same-length c = c .before .before .before .before .before .applications .kept .1
 returns : tie.Need-returns Inv-loop μ-loop
 returns c = stage-stopped (c .before .before .before .before .before .before .before .loop .inv .1) (c .before .before .before .before .before .applications .ensures) (c .if1 .taken)
 
+within-requires : tie.Need-within-requires Inv-loop μ-loop
+within-requires c κs = tt
+
 same-length-2 : tie.Need-same-length-2 Inv-loop μ-loop
-same-length-2 c = c .before .before .before .before .before .before .applications .kept .1 .1 .1 .1 .1 .1 .0 ∙ c .before .before .before .before .before .before .before .before .loop .inv .0
+same-length-2 c = c .before .before .before .before .before .before .before .applications .kept .1 .1 .1 .1 .1 .1 .0 ∙ c .before .before .before .before .before .before .before .before .before .loop .inv .0
 
 returns-2 : tie.Need-returns-2 Inv-loop μ-loop
-returns-2 c = stage-last (c .before .before .before .before .before .before .before .before .loop .inv .1) (c .before .before .before .before .before .before .applications .ensures) (c .if2 .taken)
+returns-2 c = stage-last (c .before .before .before .before .before .before .before .before .before .loop .inv .1) (c .before .before .before .before .before .before .before .applications .ensures) (c .before .if2 .taken) (c .within .ensures)
 
 loop-less : tie.Need-loop-less Inv-loop μ-loop
 loop-less c = last-less (c .before .before .before .before .before .before .before .before .loop .more) (c .if2 .left)
@@ -47,6 +50,7 @@ entry-lists-spec =
     applications-requires
     same-length
     returns
+    within-requires
     same-length-2
     returns-2
     loop-less

@@ -1,0 +1,32 @@
+-- What a record keeps that does not break the condition of 23, and what it takes to be one.
+-- Assumes nothing.
+use Prim.Native.Nat.{ℕ}
+use mathlib.Core.Path.{_≡_}
+use mathlib.Core.List.{List}
+use mathlib.Core.Bool.{true, _&&_}
+use lib.ListN.{length}
+use Rattle.refusals.proofs.Tests.{and-true}
+use Rattle.apdu_format.specs.Writing.{inRange}
+use Rattle.apdu_format.proofs.Tests.{both}
+use Rattle.apdu.specs.declared.lists.Row.{Row}
+use Rattle.apdu.specs.declared.lists.Entry.{Entry}
+use Rattle.apdu.specs.declared.records.Message.{Message}
+use Rattle.apdu.specs.Values.{valuesOf}
+use Rattle.apdu.specs.Sound.{sound, rowsFit, wellFormed}
+
+module _ (s : List ℕ) (m : Message) (es : List Entry) (rs : List Row) where
+  pub formed-by : inRange (valuesOf s m es rs) ≡ true → sound (length s) m es rs ≡ true → rowsFit m es ≡ true → wellFormed s m es rs ≡ true
+  unfolding wellFormed
+  formed-by ranges parts rows = and-true ranges (and-true parts rows)
+
+  module _ (formed : wellFormed s m es rs ≡ true) where
+    pub formed-ranges : inRange (valuesOf s m es rs) ≡ true
+    unfolding wellFormed
+    formed-ranges = both (inRange (valuesOf s m es rs)) (sound (length s) m es rs && rowsFit m es) formed .0
+
+    sound-and-fit : (sound (length s) m es rs && rowsFit m es) ≡ true
+    unfolding wellFormed
+    sound-and-fit = both (inRange (valuesOf s m es rs)) (sound (length s) m es rs && rowsFit m es) formed .1
+
+    pub formed-sound : sound (length s) m es rs ≡ true
+    formed-sound = both (sound (length s) m es rs) (rowsFit m es) sound-and-fit .0
