@@ -13,7 +13,7 @@ use Rattle.apdu_reading.specs.declared.cursor.Cursor.{Cursor}
 use Rattle.apdu_reading.specs.declared.container.Head.{Head}
 use Rattle.apdu.specs.Sound.{partFits}
 use Rattle.apdu.proofs.Laws.{zero-tidy}
-use Rattle.apdu_reading.specs.Cursor.{stateOf, component, markedAt, Reads, Inside}
+use Rattle.apdu_reading.specs.Cursor.{stateOf, component, markedAt, ReadsTo, Inside}
 use Rattle.apdu_reading.specs.Rows.{Opens}
 use Rattle.apdu_reading.specs.Optional.{Maybe, HeadMaybe, AttributesMaybe}
 use Rattle.apdu_reading.proofs.Chains.{same, nothing}
@@ -28,7 +28,7 @@ pub integer-maybe : (s : List ℕ) (p : Bool) (c : Cursor) {r : Cursor} → p �
 integer-maybe s p c t e =
     record { reads = rw t (integer-reads s c (e .0)); small = e .1; room = integer-room s c (e .0); absent = λ f. unlike t f }
 
-pub part-there : (s : List ℕ) (p : Bool) (is : List Component) (c : Cursor) {r : Cursor} {vs : List Value} → p ≡ true → Reads s is c r vs × (r .value < 128) × (r .room ≡ c .room) × Inside s true r
+pub part-there : (s : List ℕ) (p : Bool) (is : List Component) (c : Cursor) {r : Cursor} {vs : List Value} → p ≡ true → ReadsTo s is c r vs × (r .value < 128) × (r .room ≡ c .room) × Inside s true r
     → Maybe s p is c r (if p vs) × Inside s p r
 part-there s p is c t e = (record { reads = rw t (e .0); small = e .1; room = e .2; absent = λ f. unlike t f }, rw t (e .3))
 

@@ -25,7 +25,7 @@ use Rattle.apdu_reading.specs.declared.cursor.Cursor.{Cursor}
 use Rattle.apdu_reading.specs.declared.container.Head.{Head}
 use Rattle.apdu.specs.declared.due.Due.{Due}
 use Rattle.apdu_reading.specs.declared.rows.Rows.{Rows}
-use Rattle.apdu_reading.specs.Cursor.{stateOf, Reads}
+use Rattle.apdu_reading.specs.Cursor.{stateOf, ReadsTo}
 use Rattle.apdu.specs.RowCounters.{row, total}
 use Rattle.apdu_reading.specs.Lists.{Leads, Ready, Filled}
 use Rattle.apdu_reading.specs.Optional.{HeadMaybe, AttributesMaybe}
@@ -34,12 +34,12 @@ use Rattle.apdu_reading.proofs.Chains.{Same, state-log, valued, clean}
 
 -- ---- leads and readings
 
-pub and-then : {s : List ℕ} {is js : List Component} {c d r : Cursor} {vs ws : List Value} → Leads s is c js d vs → Reads s js d r ws → Reads s is c r (vs ++ ws)
+pub and-then : {s : List ℕ} {is js : List Component} {c d r : Cursor} {vs ws : List Value} → Leads s is c js d vs → ReadsTo s js d r ws → ReadsTo s is c r (vs ++ ws)
 and-then {s} {is} {js} {c} {d} {r} {vs} {ws} p q =
     record { so = λ log. p .so log ∙ q .so (log ++ vs) ∙ ap (stateOf r) (append-assoc log vs ws) }
 
 -- where nothing is read, nothing is found
-pub found-nothing : {s : List ℕ} {c r : Cursor} {vs : List Value} → Reads s [] c r vs → r .fault ≡ 0 → vs ≡ []
+pub found-nothing : {s : List ℕ} {c r : Cursor} {vs : List Value} → ReadsTo s [] c r vs → r .fault ≡ 0 → vs ≡ []
 unfolding stateOf
 found-nothing {s} {c} {r} {vs} p h =
     let e : stateOf c [] ≡ stateOf r vs = sym (runs-none (bits s) (stateOf c [])) ∙ p .so [] in
@@ -83,7 +83,7 @@ pub record Kept (p : Bool) (r : Rows) : Type 0 where
 -- ---- a container with its rows
 
 pub record Boxed (s : List ℕ) (p : Bool) (c : Cursor) (kind n start : ℕ) (r : Rows) : Type 0 where
-  pub reads : Reads s (when p (container 1 ∷ [])) c (r .cursor) (if p (containerValues s kind n start (take (r .used) (r .rows))))
+  pub reads : ReadsTo s (when p (container 1 ∷ [])) c (r .cursor) (if p (containerValues s kind n start (take (r .used) (r .rows))))
   pub sound : r .cursor .fault ≡ 0 → containerSound (length s) kind n start (take (r .used) (r .rows)) ≡ true
   pub absent : p ≡ false → (kind ≡ 0) × (n ≡ 0) × (start ≡ 0)
   pub tidy : startTidy kind start
@@ -94,7 +94,7 @@ module _ (s : List ℕ) (p : Bool) (c : Cursor) {h : Head} (m : HeadMaybe s p c 
   box-room r z = let a = m .room z in omega arith
 
   module _ {q : Rows} (f : Filled s (two n) (unread (h .cursor)) q) where
-    rows-read : Reads s (times (nested (h .kind) (h .n)) (row 2)) (h .cursor) (q .cursor) (rowsValues s (take (q .used) (q .rows)))
+    rows-read : ReadsTo s (times (nested (h .kind) (h .n)) (row 2)) (h .cursor) (q .cursor) (rowsValues s (take (q .used) (q .rows)))
     rows-read = rw (ap (λ (k : ℕ). times k (row 2)) (sym e) ∙ sym (due-two n)) (f .reads)
 
     none-found : p ≡ false → q .cursor .fault ≡ 0 → rowsValues s (take (q .used) (q .rows)) ≡ []
@@ -127,7 +127,7 @@ module _ (s : List ℕ) (p : Bool) (c : Cursor) {h : Head} (m : HeadMaybe s p c 
 -- ---- an attribute list with its rows
 
 pub record Listed (s : List ℕ) (p : Bool) (c : Cursor) (count : ℕ) (r : Rows) : Type 0 where
-  pub reads : Reads s (when p (rowCount 1 ∷ [])) c (r .cursor) (if p (num count ∷ rowsValues s (take (r .used) (r .rows))))
+  pub reads : ReadsTo s (when p (rowCount 1 ∷ [])) c (r .cursor) (if p (num count ∷ rowsValues s (take (r .used) (r .rows))))
   pub sound : r .cursor .fault ≡ 0 → rowsSound (length s) count (take (r .used) (r .rows)) ≡ true
   pub absent : p ≡ false → count ≡ 0
   pub kept : Kept p r
@@ -137,7 +137,7 @@ module _ (s : List ℕ) (p : Bool) (c : Cursor) {d : Cursor} (m : AttributesMayb
   list-room r z = let a = m .room z in omega arith
 
   module _ {q : Rows} (f : Filled s (one (d .value)) (unread d) q) where
-    list-read : Reads s (times (d .value) (row 1)) d (q .cursor) (rowsValues s (take (q .used) (q .rows)))
+    list-read : ReadsTo s (times (d .value) (row 1)) d (q .cursor) (rowsValues s (take (q .used) (q .rows)))
     list-read = rw (sym (due-one (d .value))) (f .reads)
 
     nothing-found : p ≡ false → q .cursor .fault ≡ 0 → rowsValues s (take (q .used) (q .rows)) ≡ []
@@ -160,7 +160,7 @@ module _ (s : List ℕ) (p : Bool) (c : Cursor) {d : Cursor} (m : AttributesMayb
 -- ---- a message without rows
 
 -- where nothing is read the cursor stays
-pub stays : {s : List ℕ} {c r : Cursor} {vs : List Value} → Reads s [] c r vs → Same c r
+pub stays : {s : List ℕ} {c r : Cursor} {vs : List Value} → ReadsTo s [] c r vs → Same c r
 stays {s} {c} {r} {vs} p =
     record {
       so = λ log.
@@ -169,7 +169,7 @@ stays {s} {c} {r} {vs} p =
     }
 
 module _ {s : List ℕ} {c : Cursor} {q : Rows} (f : Filled s (two 0) (unread c) q) where
-  none-read : Reads s [] c (q .cursor) (rowsValues s (take (q .used) (q .rows)))
+  none-read : ReadsTo s [] c (q .cursor) (rowsValues s (take (q .used) (q .rows)))
   unfolding times
   none-read = rw (sym (due-two 0)) (f .reads)
 

@@ -14,7 +14,7 @@ use Rattle.apdu_format.specs.Rules.{brings}
 use Rattle.apdu_format.specs.Reading.{Value, numbersOf, State, Step, beginning, faultOf, judged, step, runs}
 use Rattle.apdu_format.proofs.Runs.{runs-none, runs-append, runs-one, runs-stopped}
 use Rattle.apdu_reading.specs.declared.cursor.Cursor.{Cursor}
-use Rattle.apdu_reading.specs.Cursor.{cursor, stateOf, component, Reads}
+use Rattle.apdu_reading.specs.Cursor.{cursor, stateOf, component, ReadsTo}
 use Rattle.apdu_reading.proofs.Pieces.{sees}
 
 -- what a component brings that is read
@@ -40,7 +40,7 @@ pub state-log : (r : Cursor) (vs ws : List Value) → (r .fault ≡ 0 → vs ≡
 unfolding stateOf
 state-log r vs ws f = by-cases (eqb (r .fault) 0) (λ p. rw (f (eqb-true _ _ p))) (λ p. rw p)
 
-pub valued : {s : List ℕ} {is : List Component} {c r : Cursor} {vs ws : List Value} → (r .fault ≡ 0 → vs ≡ ws) → Reads s is c r vs → Reads s is c r ws
+pub valued : {s : List ℕ} {is : List Component} {c r : Cursor} {vs ws : List Value} → (r .fault ≡ 0 → vs ≡ ws) → ReadsTo s is c r vs → ReadsTo s is c r ws
 valued {s} {is} {c} {r} {vs} {ws} f p =
     record { so = λ log. p .so log ∙ state-log r (log ++ vs) (log ++ ws) (λ z. ap (λ (u : List Value). log ++ u) (f z)) }
 
@@ -59,44 +59,44 @@ same d value start = record { so = λ log. refl }
 pub itself : (d : Cursor) → Same d d
 itself d = record { so = λ log. refl }
 
-pub nothing : (s : List ℕ) {c r : Cursor} → Same c r → Reads s [] c r []
+pub nothing : (s : List ℕ) {c r : Cursor} → Same c r → ReadsTo s [] c r []
 nothing s {c} {r} p = record { so = λ log. runs-none (bits s) (stateOf c log) ∙ p .so log ∙ rw append-nil }
 
-pub then : {s : List ℕ} {is js : List Component} {c d e : Cursor} {vs ws : List Value} → Reads s is c d vs → Reads s js d e ws → Reads s (is ++ js) c e (vs ++ ws)
+pub then : {s : List ℕ} {is js : List Component} {c d e : Cursor} {vs ws : List Value} → ReadsTo s is c d vs → ReadsTo s js d e ws → ReadsTo s (is ++ js) c e (vs ++ ws)
 then {s} {is} {js} {c} {d} {e} {vs} {ws} p q =
     record { so = λ log. runs-append (bits s) is js (stateOf c log) ∙ rw (p .so log, ← append-assoc log vs ws) (q .so (log ++ vs)) }
 
 -- with another cursor that says something else
-pub saying : {s : List ℕ} {is : List Component} {c d r : Cursor} {vs : List Value} → Reads s is c d vs → Same d r → Reads s is c r vs
+pub saying : {s : List ℕ} {is : List Component} {c d r : Cursor} {vs : List Value} → ReadsTo s is c d vs → Same d r → ReadsTo s is c r vs
 saying {s} {is} {c} {d} {r} {vs} p q = record { so = λ log. p .so log ∙ q .so (log ++ vs) }
 
-pub after : {s : List ℕ} {is : List Component} {b c d : Cursor} {vs : List Value} → Same b c → Reads s is c d vs → Reads s is b d vs
+pub after : {s : List ℕ} {is : List Component} {b c d : Cursor} {vs : List Value} → Same b c → ReadsTo s is c d vs → ReadsTo s is b d vs
 after {s} {is} {b} {c} {d} {vs} q p = record { so = λ log. ap (runs (bits s) is) (q .so log) ∙ p .so log }
 
 -- nothing is read behind a fault
-pub still : {s : List ℕ} {is : List Component} {d e : Cursor} {vs : List Value} → Reads s is d e vs → (d .fault ≡ 0 → ⊥) → Same d e
+pub still : {s : List ℕ} {is : List Component} {d e : Cursor} {vs : List Value} → ReadsTo s is d e vs → (d .fault ≡ 0 → ⊥) → Same d e
 unfolding stateOf
 still {s} {is} {d} {e} {vs} p n =
     let at : (log : List Value) → stateOf d log ≡ stateOf e (log ++ vs) = λ log. sym (runs-stopped (bits s) is (stateOf d log) n) ∙ p .so log in
     let m : e .fault ≡ 0 → ⊥ = λ z. n (ap (λ (x : State). x .fault) (at []) ∙ z) in
     record { so = λ log. at log ∙ state-log e (log ++ vs) log (λ z. absurd (m z)) }
 
-pub clean : {s : List ℕ} {is : List Component} {d e : Cursor} {vs : List Value} → Reads s is d e vs → e .fault ≡ 0 → d .fault ≡ 0
+pub clean : {s : List ℕ} {is : List Component} {d e : Cursor} {vs : List Value} → ReadsTo s is d e vs → e .fault ≡ 0 → d .fault ≡ 0
 clean {s} {is} {d} {e} {vs} p h =
     by-cases (eqb (d .fault) 0) (λ q. eqb-true _ _ q) (λ q. same-fault (still p (eqb-false _ _ q)) ∙ h)
 
-halted : (s : List ℕ) (is : List Component) {d r : Cursor} (vs : List Value) → (d .fault ≡ 0 → ⊥) → Same d r → Reads s is d r vs
+halted : (s : List ℕ) (is : List Component) {d r : Cursor} (vs : List Value) → (d .fault ≡ 0 → ⊥) → Same d r → ReadsTo s is d r vs
 unfolding stateOf
 halted s is {d} {r} vs n p =
     record { so = λ log. runs-stopped (bits s) is (stateOf d log) n ∙ p .so log ∙ state-log r log (log ++ vs) (λ z. absurd (n (same-fault p ∙ z))) }
 
 -- a component, and what it brings if it is read
 pub enter : {s : List ℕ} (i : Component) (c : Cursor) {d r : Cursor} {vs : List Value} → d ≡ component s i c
-    → (d .fault ≡ 0 → Reads s (brings i (numbersOf (sees s i c))) d r vs) → ((d .fault ≡ 0 → ⊥) → Same d r) → Reads s (i ∷ []) c r (sees s i c ∷ vs)
+    → (d .fault ≡ 0 → ReadsTo s (brings i (numbersOf (sees s i c))) d r vs) → ((d .fault ≡ 0 → ⊥) → Same d r) → ReadsTo s (i ∷ []) c r (sees s i c ∷ vs)
 enter {s} i c {d} {r} {vs} e f g =
-    let inner : Reads s (more s i c) d r vs =
+    let inner : ReadsTo s (more s i c) d r vs =
     rw (← e)
-    (by-test (λ (is : List Component). Reads s is d r vs) (eqb (d .fault) 0) (λ p. f (eqb-true _ _ p)) (λ p. halted s [] vs (eqb-false _ _ p) (g (eqb-false _ _ p)))) in
+    (by-test (λ (is : List Component). ReadsTo s is d r vs) (eqb (d .fault) 0) (λ p. f (eqb-true _ _ p)) (λ p. halted s [] vs (eqb-false _ _ p) (g (eqb-false _ _ p)))) in
     record {
       so = λ log.
           runs-one (bits s) i (stateOf c log)
@@ -106,5 +106,5 @@ enter {s} i c {d} {r} {vs} e f g =
     }
 
 -- a component that brings nothing
-pub alone : (s : List ℕ) (i : Component) (c : Cursor) {d : Cursor} → d ≡ component s i c → brings i (numbersOf (sees s i c)) ≡ [] → Reads s (i ∷ []) c d (sees s i c ∷ [])
+pub alone : (s : List ℕ) (i : Component) (c : Cursor) {d : Cursor} → d ≡ component s i c → brings i (numbersOf (sees s i c)) ≡ [] → ReadsTo s (i ∷ []) c d (sees s i c ∷ [])
 alone s i c {d} e n = enter i c e (λ h. rw n (nothing s (itself d))) (λ h. itself d)

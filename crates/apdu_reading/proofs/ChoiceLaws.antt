@@ -18,7 +18,7 @@ use Rattle.apdu.specs.declared.lists.Entry.{Entry}
 use Rattle.apdu.specs.Values.{emptyEntry}
 use Rattle.apdu.specs.Tidy.{EntriesTidy}
 use Rattle.apdu_reading.specs.declared.cursor.Cursor.{Cursor}
-use Rattle.apdu_reading.specs.Cursor.{cursor, stateOf, Reads}
+use Rattle.apdu_reading.specs.Cursor.{cursor, stateOf, ReadsTo}
 use Rattle.apdu_reading.specs.Messages.{Begun}
 use Rattle.apdu_reading.specs.Answers.{first, Chosen}
 use Rattle.apdu_reading.proofs.Pieces.{sees, Good, good, fine}
@@ -49,14 +49,14 @@ module _ (s : List ℕ) (c : Cursor) (h : Chosen s c) where
       let g = rw choice-saw at (choice-good .right) in
       leb-false _ _ (first-none 14 (leb (length table) (c .value)) [] g .0)
 
-  pub chosen : (k : ℕ) → c .value ≡ k → {r : Cursor} {vs : List Value} → Reads s (lead k ∷ []) c r vs → Reads s (choice ∷ []) first r (fields (k ∷ []) ∷ vs)
+  pub chosen : (k : ℕ) → c .value ≡ k → {r : Cursor} {vs : List Value} → ReadsTo s (lead k ∷ []) c r vs → ReadsTo s (choice ∷ []) first r (fields (k ∷ []) ∷ vs)
   unfolding brings numbersOf
   chosen k e {r} {vs} p =
       let saw : sees s choice first ≡ fields (k ∷ []) = choice-saw ∙ ap (λ (n : ℕ). fields (n ∷ [])) e in
       rw (← saw) (enter choice first (h .is) (λ g. rw saw p) (λ g. still p g))
 
 -- two choices with the same line
-pub lead-as : (s : List ℕ) (j k : ℕ) (c : Cursor) {r : Cursor} {vs : List Value} → layoutOf j ≡ layoutOf k → Reads s (lead j ∷ []) c r vs → Reads s (lead k ∷ []) c r vs
+pub lead-as : (s : List ℕ) (j k : ℕ) (c : Cursor) {r : Cursor} {vs : List Value} → layoutOf j ≡ layoutOf k → ReadsTo s (lead j ∷ []) c r vs → ReadsTo s (lead k ∷ []) c r vs
 lead-as s j k c {r} {vs} e p =
     record { so = λ log. runs-one (bits s) (lead k) (stateOf c log) ∙ ap (λ (t : Step). runs (bits s) (t .more) (t .state)) (sym (same-step (stateOf c log))) ∙ sym (runs-one (bits s) (lead j) (stateOf c log)) ∙ p .so log }
   where

@@ -23,7 +23,7 @@ use Rattle.apdu.proofs.Laws.{zero-tidy}
 use Rattle.apdu_reading.specs.declared.cursor.Cursor.{Cursor}
 use Rattle.apdu_reading.specs.declared.container.Head.{Head}
 use Rattle.apdu.specs.Sound.{nested, partFits}
-use Rattle.apdu_reading.specs.Cursor.{cursor, stateOf, component, Reads, Inside}
+use Rattle.apdu_reading.specs.Cursor.{cursor, stateOf, component, ReadsTo, Inside}
 use Rattle.apdu.specs.RowCounters.{row}
 use Rattle.apdu_reading.specs.Rows.{Opens}
 use Rattle.apdu_reading.specs.Lists.{Leads}
@@ -38,7 +38,7 @@ head k n start c = record { kind = k; n = n; start = start; cursor = c }
 
 -- what a string or a list of ids ensures
 abbrev Ensured : List ℕ → List Component → Cursor → Cursor → List Value → Type 0
-Ensured s is c r vs = Reads s is c r vs × (r .value < 128) × (r .room ≡ c .room) × Inside s true r
+Ensured s is c r vs = ReadsTo s is c r vs × (r .value < 128) × (r .room ≡ c .room) × Inside s true r
 
 pub one : (s : List ℕ) (i : Component) (b : Cursor) {d : Cursor} → d ≡ component s i b → (log : List Value) → runs (bits s) (i ∷ []) (stateOf b log) ≡ runs (bits s) (more s i b) (stateOf d (log ++ (sees s i b ∷ [])))
 one s i b z log = rw z (runs-one (bits s) i (stateOf b log) ∙ ap (λ (t : Step). runs (bits s) (t .more) (t .state)) (took s i b log))
@@ -94,7 +94,7 @@ module _ (s : List ℕ) (depth : ℕ) (c : Cursor) {k : Cursor} (x : k ≡ compo
   pub opens-fault : (k .fault ≡ 0 → ⊥) → Opens s depth c (head 0 0 0 k)
   unfolding times
   opens-fault n =
-      let r : Reads s (container depth ∷ []) c k (headValues s 0 0 0) =
+      let r : ReadsTo s (container depth ∷ []) c k (headValues s 0 0 0) =
       valued (λ h. absurd (n h)) (enter (container depth) c {vs = []} x (λ h. absurd (n h)) (λ h. itself k)) in
       record {
         so = λ log. r .so log ∙ sym (runs-none (bits s) (stateOf k (log ++ headValues s 0 0 0)));
@@ -137,11 +137,11 @@ module _ (s : List ℕ) (depth : ℕ) (c : Cursor) {k : Cursor} (x : k ≡ compo
     is-list a b d = eqb-true _ _ (rw (ne-eqb _ _ a, ne-eqb _ _ b, ne-eqb _ _ d) at kind-known)
 
     -- a container without rows
-    plain : (K n start : ℕ) {is : List Component} {d : Cursor} {vs : List Value} → Reads s is k d vs → nested K n ≡ 0 → content depth (k .value) ≡ is → num (k .value) ∷ vs ≡ headValues s K n start
+    plain : (K n start : ℕ) {is : List Component} {d : Cursor} {vs : List Value} → ReadsTo s is k d vs → nested K n ≡ 0 → content depth (k .value) ≡ is → num (k .value) ∷ vs ≡ headValues s K n start
         → d .room ≡ k .room → K < 128 → n < 128 → (d .fault ≡ 0 → partFits (length s) K n start ≡ true) → startTidy K start → Opens s depth c (head K n start d)
     unfolding brings numbersOf times
     plain K n start {is} {d} {vs} r z a b q u v f t =
-        let whole : Reads s (container depth ∷ []) c d (headValues s K n start) =
+        let whole : ReadsTo s (container depth ∷ []) c d (headValues s K n start) =
         valued (λ g. ap (λ (v : Value). v ∷ vs) kind-saw ∙ b) (enter (container depth) c x (λ g. rw (kind-saw, a) r) (λ g. absurd (g h))) in
         record {
           so = λ log. whole .so log ∙ rw z (sym (runs-none (bits s) (stateOf d (log ++ headValues s K n start))));

@@ -26,7 +26,7 @@ use Rattle.apdu_reading.specs.declared.cursor.Cursor.{Cursor}
 use Rattle.apdu_reading.specs.declared.container.Head.{Head}
 use Rattle.apdu_reading.specs.declared.rows.Rows.{Rows}
 use Rattle.apdu_reading.specs.declared.applications.EntryHead.{EntryHead}
-use Rattle.apdu_reading.specs.Cursor.{stateOf, component, Reads}
+use Rattle.apdu_reading.specs.Cursor.{stateOf, component, ReadsTo}
 use Rattle.apdu.specs.RowCounters.{row, total}
 use Rattle.apdu_reading.specs.Lists.{between, Ready, Filled}
 use Rattle.apdu_reading.specs.Optional.{Maybe, HeadMaybe}
@@ -156,7 +156,7 @@ module _ (s : List ℕ) (r : Rows) (o : Open r) {h : EntryHead} (p : EntryOpens 
     abbrev new : List Row
     new = between (r .used) (q .used) (q .rows)
 
-    due-read : Reads s (times (h .due) (row 2)) (h .cursor) (q .cursor) (rowsValues s new)
+    due-read : ReadsTo s (times (h .due) (row 2)) (h .cursor) (q .cursor) (rowsValues s new)
     due-read = rw (sym (due-two (h .due))) (f .reads)
 
     abbrev entryWith : Entry

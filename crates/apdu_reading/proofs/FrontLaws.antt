@@ -20,9 +20,9 @@ use Rattle.apdu_reading.specs.declared.cursor.Cursor.{Cursor}
 use Rattle.apdu_reading.specs.declared.front.Answer.{Answer}
 use Rattle.apdu_reading.specs.declared.front.Answer.the-variants as answer
 use Rattle.apdu_reading.specs.declared.front.Reading.{Reading}
-use Rattle.apdu_reading.specs.Cursor.{cursor, stateOf, component, Reads}
+use Rattle.apdu_reading.specs.Cursor.{cursor, stateOf, component, ReadsTo}
 use Rattle.apdu_reading.specs.Messages.{MessageRead}
-use Rattle.apdu_reading.specs.Answers.{told, outcomeOf, tidyBy, Tidy, soundBy, SoundRecord, noLists, refusal, first, endedBy, answerOf, placeOf, Answered}
+use Rattle.apdu_reading.specs.Answers.{told, outcomeOf, tidyBy, Tidy, soundBy, SoundRecord, fewBy, FewRows, noLists, refusal, first, endedBy, answerOf, placeOf, Reads}
 use Rattle.apdu_reading.proofs.Pieces.{sees}
 use Rattle.apdu_reading.proofs.Chains.{itself, enter}
 use Rattle.apdu_reading.proofs.Boxes.{unused}
@@ -38,15 +38,27 @@ refusal-sound : (s : List ℕ) (k p : ℕ) → SoundRecord s (refusal k p)
 unfolding refusal soundBy
 refusal-sound s k p = record { is = tt }
 
+refusal-few : (k p : ℕ) → FewRows (refusal k p)
+unfolding refusal fewBy
+refusal-few k p = record { is = tt }
+
 refusal-outcome : (s : List ℕ) (k p : ℕ) → outcomeOf s (refusal k p) ≡ refused k p
 unfolding refusal outcomeOf told
 refusal-outcome s k p = refl
 
-refusal-answers : (s : List ℕ) (k p : ℕ) → readMessage s ≡ refused k p → {q : Reading} → q ≡ refusal k p → Answered s q
+refusal-answers : (s : List ℕ) (k p : ℕ) → readMessage s ≡ refused k p → {q : Reading} → q ≡ refusal k p → Reads s q
 refusal-answers s k p e f =
-    rw f (record { outcome = refusal-outcome s k p ∙ sym e; tidy = refusal-tidy k p; sound = refusal-sound s k p })
+    rw f
+    (record {
+      outcome = refusal-outcome s k p ∙ sym e;
+      tidy = refusal-tidy k p;
+      sound = refusal-sound s k p;
+      few = refusal-few k p;
+      rows = unfold refusal in refl;
+      entries = unfold refusal in refl;
+    })
 
-pub too-long : (s : List ℕ) → longestMessage < length s → {q : Reading} → q ≡ refusal 21 512 → Answered s q
+pub too-long : (s : List ℕ) → longestMessage < length s → {q : Reading} → q ≡ refusal 21 512 → Reads s q
 unfolding readMessage
 too-long s h f = refusal-answers s 21 512 (rw (lt-ltb _ _ h)) f
 
@@ -68,18 +80,18 @@ module _ (s : List ℕ) (c : Cursor) where
 -- ---- what the reader comes to
 
 module _ (s : List ℕ) (short : length s ≤ longestMessage) (r : Cursor) where
-  reads-as : {vs : List _} → Reads s (choice ∷ []) first r vs → readMessage s ≡ alone s (outcome (stateOf r vs))
+  reads-as : {vs : List _} → ReadsTo s (choice ∷ []) first r vs → readMessage s ≡ alone s (outcome (stateOf r vs))
   unfolding readMessage readFront stateOf
   reads-as p = rw (le-ltb _ _ short) (ap (λ d. alone s (outcome d)) (p .so []))
 
-  stopped : {vs : List _} → Reads s (choice ∷ []) first r vs → (r .fault ≡ 0 → ⊥) → readMessage s ≡ refused (r .fault) (r .position)
+  stopped : {vs : List _} → ReadsTo s (choice ∷ []) first r vs → (r .fault ≡ 0 → ⊥) → readMessage s ≡ refused (r .fault) (r .position)
   unfolding outcome stateOf alone
   stopped p n = reads-as p ∙ rw (ne-eqb _ _ n)
 
   -- a choice that is refused
-  pub choice-refused : r ≡ component s choice first → (r .fault ≡ 0 → ⊥) → {q : Reading} → q ≡ refusal (r .fault) (r .position) → Answered s q
+  pub choice-refused : r ≡ component s choice first → (r .fault ≡ 0 → ⊥) → {q : Reading} → q ≡ refusal (r .fault) (r .position) → Reads s q
   choice-refused e n f =
-      let p : Reads s (choice ∷ []) first r (sees s choice first ∷ []) = enter choice first {vs = []} e (λ h. absurd (n h)) (λ h. itself r) in
+      let p : ReadsTo s (choice ∷ []) first r (sees s choice first ∷ []) = enter choice first {vs = []} e (λ h. absurd (n h)) (λ h. itself r) in
       refusal-answers s (r .fault) (r .position) (stopped p n) f
 
   -- a message, and what is behind it
@@ -88,7 +100,7 @@ module _ (s : List ℕ) (short : length s ≤ longestMessage) (r : Cursor) where
     unfolding outcome stateOf alone octetOf
     left w z = reads-as (p .reads) ∙ rw (eq-eqb _ _ z, w)
 
-    pub message-refused : (e .fault ≡ 0 → ⊥) → {q : Reading} → q ≡ refusal (e .fault) (e .position) → Answered s q
+    pub message-refused : (e .fault ≡ 0 → ⊥) → {q : Reading} → q ≡ refusal (e .fault) (e .position) → Reads s q
     unfolding endedBy
     message-refused n g =
         by-cases (eqb (r .fault) 0)
@@ -110,8 +122,8 @@ module _ (s : List ℕ) (short : length s ≤ longestMessage) (r : Cursor) where
         fourteen e = omega arith
 
     pub message-answered : e .fault ≡ 0 → {n : Message} → n ≡ m → {es : List Entry} → es ≡ l .entries
-        → Answered s (record { answer = answer.Message n; end = e .at; lists = record { entries = es; rows = l .rows } })
-    unfolding outcomeOf told tidyBy soundBy outcome stateOf alone
+        → Reads s (record { answer = answer.Message n; end = e .at; lists = record { entries = es; rows = l .rows } })
+    unfolding outcomeOf told tidyBy soundBy fewBy outcome stateOf alone
     message-answered z i j =
         let w = whole z in
         rw (w .1, i, j)
@@ -119,11 +131,14 @@ module _ (s : List ℕ) (short : length s ≤ longestMessage) (r : Cursor) where
           outcome = sym (reads-as (p .reads) ∙ rw (eq-eqb _ _ (w .0), w .2));
           tidy = record { is = p .tidy (w .0) };
           sound = record { is = p .sound (w .0) };
+          few = record { is = p .few };
+          rows = p .rows;
+          entries = p .entries;
         })
 
     -- both by one end: a refusal's lists are cleared, a message's are kept
     pub message-told : {a : Answer} → a ≡ answerOf e m → {k : ℕ} → k ≡ placeOf e → {t : Lists}
-        → ((e .fault ≡ 0 → ⊥) × (t ≡ noLists)) ⊎ ((e .fault ≡ 0) × (t ≡ l)) → Answered s (record { answer = a; end = k; lists = t })
+        → ((e .fault ≡ 0 → ⊥) × (t ≡ noLists)) ⊎ ((e .fault ≡ 0) × (t ≡ l)) → Reads s (record { answer = a; end = k; lists = t })
     unfolding refusal answerOf placeOf
     message-told i j (inl w) = message-refused (w .0) (rw (i, j, w .1, ne-eqb _ _ (w .0)))
     message-told i j (inr w) = rw (i, j, w .1, eq-eqb _ _ (w .0)) (message-answered (w .0) refl refl)

@@ -18,7 +18,7 @@ use Rattle.apdu_format.specs.Reading.{Value, fields, numbersOf, sum, fieldsOf, 
 use Rattle.apdu.specs.Values.{bitOf}
 use Rattle.apdu.specs.Tidy.{Absent}
 use Rattle.apdu_reading.specs.declared.cursor.Cursor.{Cursor}
-use Rattle.apdu_reading.specs.Cursor.{component, pieceOf, Reads}
+use Rattle.apdu_reading.specs.Cursor.{component, pieceOf, ReadsTo}
 use Rattle.apdu_reading.specs.Optional.{Maybe}
 use Rattle.apdu_reading.specs.Messages.{Begun}
 use Rattle.apdu_reading.proofs.Pieces.{sees}
@@ -59,8 +59,8 @@ module _ (s : List ℕ) (c : Cursor) (b : Begun c) where
   saw-three k x y z e p q r = rw (e, b .at, drop-drop 1 4 (bits s), drop-drop 1 5 (bits s), p, q, r)
 
   -- the lead, and what its bits say is there
-  pub lead-in : (k : ℕ) (fs : List ℕ) {p r : Cursor} {vs : List Value} → p ≡ component s (lead k) c → Saw k fs → Reads s (present fs (layoutOf k .body)) p r vs
-      → Reads s (lead k ∷ []) c r ((fields fs ∷ []) ++ vs)
+  pub lead-in : (k : ℕ) (fs : List ℕ) {p r : Cursor} {vs : List Value} → p ≡ component s (lead k) c → Saw k fs → ReadsTo s (present fs (layoutOf k .body)) p r vs
+      → ReadsTo s (lead k ∷ []) c r ((fields fs ∷ []) ++ vs)
   unfolding brings numbersOf
   lead-in k fs {p} {r} {vs} e saw inner = rw (← saw) (enter (lead k) c e (λ h. rw saw inner) (λ h. still inner h))
 

@@ -18,14 +18,15 @@ use Rattle.apdu_format.specs.Table.{layoutOf}
 use Rattle.apdu_format.specs.Rules.{shape, brings, present, when, announced}
 use Rattle.apdu_format.specs.Reading.{Value, fields, numbersOf, sum, need, fieldsOf, valueAt}
 use Rattle.apdu.specs.declared.records.Message.the-variants as kind
-use Rattle.apdu.specs.Values.{bitOf, num, idList, bstValues, vstValues, valuesOf}
+use Rattle.apdu.specs.Values.{bitOf, num, idList, rowsOf, bstValues, vstValues, valuesOf}
 use Rattle.apdu.specs.Tidy.{messageTidy}
-use Rattle.apdu.specs.Sound.{bstSound, vstSound, sound}
+use Rattle.apdu.specs.Sound.{bstSound, vstSound, sound, rowsPresent}
 use Rattle.apdu.proofs.Laws.{sound-if, own-sound}
+use Rattle.apdu.proofs.Formed.{count-le, rows-fit}
 use Rattle.apdu_reading.specs.declared.cursor.Cursor.{Cursor}
 use Rattle.apdu_reading.specs.declared.link.Configuration.{Configuration}
 use Rattle.apdu_reading.specs.declared.link.LinkFront.{LinkFront}
-use Rattle.apdu_reading.specs.Cursor.{component, pieceOf, Reads, Inside}
+use Rattle.apdu_reading.specs.Cursor.{component, pieceOf, ReadsTo, Inside}
 use Rattle.apdu_reading.specs.Applications.{ConfigurationRead}
 use Rattle.apdu_reading.specs.Messages.{Begun, FrontRead, EndRead}
 use Rattle.apdu_reading.specs.Answers.{first, Chosen}
@@ -45,7 +46,7 @@ fixed-saw s n c k e h =
     let v = ap (λ (q : Cursor). q .value) (e ∙ fine s (fixed n) c (g .clean) (g .there) (g .right)) in
     ap (λ (x : ℕ). fields (x ∷ [])) (sym (piece-number s (c .at) (8 * n) (omega arith)) ∙ sym (rw add-zero at v))
 
-pub fixed-reads : (s : List ℕ) (n : ℕ) (c : Cursor) {d : Cursor} → n ≤ 6 → d ≡ component s (fixed n) c → Reads s (fixed n ∷ []) c d (fields (d .value ∷ []) ∷ [])
+pub fixed-reads : (s : List ℕ) (n : ℕ) (c : Cursor) {d : Cursor} → n ≤ 6 → d ≡ component s (fixed n) c → ReadsTo s (fixed n ∷ []) c d (fields (d .value ∷ []) ∷ [])
 unfolding brings
 fixed-reads s n c {d} k e = valued (λ h. ap (λ (v : Value). v ∷ []) (fixed-saw s n c k e h)) (alone s (fixed n) c e refl)
 
@@ -81,11 +82,11 @@ module _ (s : List ℕ) (c : Cursor) {k : Cursor} (e : k ≡ component s class c
   unfolding shape valueAt
   class-saw h = ap fields (class-fields h ∙ rw bit-x)
 
-  module _ {maker : Cursor} (f : maker ≡ component s (fixed 2) k) {r : Cursor} {vs : List Value} (g : Reads s (when x (fixed 2 ∷ [])) maker r vs) where
-    config-reads : Reads s (class ∷ []) c r (fields (bitOf x ∷ k .value % 32768 ∷ []) ∷ ((fields (maker .value ∷ []) ∷ []) ++ vs))
+  module _ {maker : Cursor} (f : maker ≡ component s (fixed 2) k) {r : Cursor} {vs : List Value} (g : ReadsTo s (when x (fixed 2 ∷ [])) maker r vs) where
+    config-reads : ReadsTo s (class ∷ []) c r (fields (bitOf x ∷ k .value % 32768 ∷ []) ∷ ((fields (maker .value ∷ []) ∷ []) ++ vs))
     unfolding brings numbersOf shape valueAt
     config-reads =
-        let inner : Reads s ((fixed 2 ∷ []) ++ when x (fixed 2 ∷ [])) k r ((fields (maker .value ∷ []) ∷ []) ++ vs) = then (fixed-reads s 2 k (omega arith) f) g in
+        let inner : ReadsTo s ((fixed 2 ∷ []) ++ when x (fixed 2 ∷ [])) k r ((fields (maker .value ∷ []) ∷ []) ++ vs) = then (fixed-reads s 2 k (omega arith) f) g in
         valued (λ h. ap (λ (v : Value). v ∷ ((fields (maker .value ∷ []) ∷ []) ++ vs)) (class-saw (clean inner h)))
         (enter class c e (λ h. rw (class-fields h) inner) (λ h. still inner h))
 
@@ -138,8 +139,8 @@ module _ (s : List ℕ) (c : Cursor) (h : Chosen s c) where
     bst-room = integer-room s time (i .0) ∙ room-of s (fixed 4) l (λ fs. refl) (four-octets s l q) ∙ lead-room s c b 8 (bst-lead k)
 
     bst-opens : c .value ≡ 8 → {r : Cursor} {vs : List Value}
-        → Reads s (entryCount ∷ (when x (entryCount ∷ []) ++ (idCount ∷ []))) profile r vs
-        → Reads s (choice ∷ []) first r (fields (8 ∷ []) ∷ fields (bitOf x ∷ y ∷ z ∷ []) ∷ fields (time .value ∷ []) ∷ num (profile .value) ∷ vs)
+        → ReadsTo s (entryCount ∷ (when x (entryCount ∷ []) ++ (idCount ∷ []))) profile r vs
+        → ReadsTo s (choice ∷ []) first r (fields (8 ∷ []) ∷ fields (bitOf x ∷ y ∷ z ∷ []) ∷ fields (time .value ∷ []) ∷ num (profile .value) ∷ vs)
     unfolding layoutOf present
     bst-opens e p =
         chosen s c h 8 e
@@ -163,8 +164,8 @@ module _ (s : List ℕ) (c : Cursor) (h : Chosen s c) where
 
   module _ {l : Cursor} (k : l ≡ pieceOf s 4 false c) {profile : Cursor} (i : (profile ≡ component s integer l) × (profile .value < 128))
       {x : ℕ} (fx : x ≡ readField s 4 4) where
-    vst-opens : c .value ≡ 9 → {r : Cursor} {vs : List Value} → Reads s (entryCount ∷ class ∷ []) profile r vs
-        → Reads s (choice ∷ []) first r (fields (9 ∷ []) ∷ fields (x ∷ []) ∷ num (profile .value) ∷ vs)
+    vst-opens : c .value ≡ 9 → {r : Cursor} {vs : List Value} → ReadsTo s (entryCount ∷ class ∷ []) profile r vs
+        → ReadsTo s (choice ∷ []) first r (fields (9 ∷ []) ∷ fields (x ∷ []) ∷ num (profile .value) ∷ vs)
     unfolding layoutOf present
     vst-opens e p =
         chosen s c h 9 e
@@ -186,7 +187,7 @@ module _ (s : List ℕ) (c : Cursor) (h : Chosen s c) where
 
 module _ (s : List ℕ) (f : LinkFront) (opened : FrontRead s f) (m o : ℕ) (c : Cursor) where
   pub bst-end : f .choice ≡ 8 → {ids : Cursor}
-      → Reads s (idCount ∷ []) c ids (idList s (ids .start) (ids .value)) × (ids .value < 128) × (ids .room ≡ c .room) × Inside s true ids
+      → ReadsTo s (idCount ∷ []) c ids (idList s (ids .start) (ids .value)) × (ids .value < 128) × (ids .room ≡ c .room) × Inside s true ids
       → EndRead s f m o c
       (record {
         cursor = ids;
@@ -204,14 +205,17 @@ module _ (s : List ℕ) (f : LinkFront) (opened : FrontRead s f) (m o : ℕ) (c 
               «profile_count» = ids .value;
             });
       })
-  unfolding valuesOf bstValues messageTidy sound bstSound
+  unfolding valuesOf bstValues messageTidy sound bstSound rowsPresent
   bst-end e {ids} r =
       record {
-        whole = λ w.
+        whole = λ {l} w.
             record {
               reads = opened .bst e (w .reads (then (r .0) (nothing s (itself ids))));
               tidy = λ g. (record { are = λ v. (w .absent v, tt) }, w .tidy (clean (r .0) g));
               sound = λ g. let h = clean (r .0) g in and-true (w .first h) (and-true (sound-if (f .«has_others») (w .second h)) (r .3 .so g));
+              few = rows-fit _ _ (let k = count-le (f .«has_others») (rowsOf (take o (drop m (l .entries)))) in let u = w .few in omega arith);
+              rows = w .rows;
+              entries = w .entries;
             };
       }
 
@@ -231,7 +235,7 @@ module _ (s : List ℕ) (f : LinkFront) (opened : FrontRead s f) (m o : ℕ) (c 
               status = d .status;
             });
       })
-  unfolding valuesOf vstValues messageTidy sound vstSound
+  unfolding valuesOf vstValues messageTidy sound vstSound rowsPresent
   vst-end n {d} q =
       record {
         whole = λ {l} w.
@@ -241,5 +245,8 @@ module _ (s : List ℕ) (f : LinkFront) (opened : FrontRead s f) (m o : ℕ) (c 
               reads = opened .vst n (rw x at (w .reads (then (q .reads) (nothing s (itself (d .cursor))))));
               tidy = λ g. (q .absent, rw z at (w .tidy (clean (q .reads) g)));
               sound = λ g. own-sound (length s) (take m (l .entries)) (l .rows) ∙ w .first (clean (q .reads) g);
+              few = rows-fit _ _ (let u = w .few in omega arith);
+              rows = w .rows;
+              entries = w .entries;
             };
       }

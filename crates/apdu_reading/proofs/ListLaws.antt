@@ -16,7 +16,7 @@ use Rattle.apdu.specs.declared.lists.Entry.{Entry}
 use Rattle.apdu.specs.Values.{num, if, entriesValues, rowsOf, listValues, emptyRow, emptyEntry}
 use Rattle.apdu.proofs.Laws.{zero-tidy, own-sound, rows-of-append}
 use Rattle.apdu_reading.specs.declared.cursor.Cursor.{Cursor}
-use Rattle.apdu_reading.specs.Cursor.{Reads}
+use Rattle.apdu_reading.specs.Cursor.{ReadsTo}
 use Rattle.apdu_reading.specs.Lists.{between}
 use Rattle.apdu_reading.specs.Applications.{CountMaybe, ListsWhole}
 use Rattle.apdu_reading.proofs.Stores.{Applications, counted, StoreReady, Stored, Listed, Both, Upto}
@@ -41,7 +41,7 @@ listed : {s : List ℕ} {p : Bool} {base : ℕ} {a : Applications} {d : Cursor} 
 listed {d = d} m t = record { begin = d; leads = m .leads; small = m .small; absent = m .absent; stored = t }
 
 list-reads : (s : List ℕ) (p : Bool) (base : ℕ) (a : Applications) (n : ℕ) (r : Applications) → Listed s p base a n r
-    → Reads s (when p (entryCount ∷ [])) (a .rows .cursor) (r .rows .cursor)
+    → ReadsTo s (when p (entryCount ∷ [])) (a .rows .cursor) (r .rows .cursor)
     (if p (num n ∷ entriesValues s (between base (base + n) (r .entries)) (between (a .rows .used) (r .rows .used) (r .rows .rows))))
 unfolding times
 list-reads s p base a n r l =
@@ -101,10 +101,12 @@ module _ (s : List ℕ) (p : Bool) (c : Cursor) {rows : List Row} {es : List Ent
   own-entries : between m (m + o) (r .entries) ≡ own
   own-entries = take-between m o (r .entries)
 
+  own-count : before .rows .used + rowsOf own ≡ r .rows .used
+  own-count = rw own-entries at (b .second .stored .rows)
+
   own-rows : between (before .rows .used) (r .rows .used) (r .rows .rows) ≡ take (rowsOf own) (drop (rowsOf (take m (r .entries))) (r .rows .rows))
   own-rows =
-      let u : before .rows .used + rowsOf own ≡ r .rows .used = rw own-entries at (b .second .stored .rows) in
-      ap (λ (n : ℕ). between (before .rows .used) n (r .rows .rows)) (sym u)
+      ap (λ (n : ℕ). between (before .rows .used) n (r .rows .rows)) (sym own-count)
       ∙ take-between (before .rows .used) (rowsOf own) (r .rows .rows) ∙ rw first-count
 
   first-values : num m ∷ entriesValues s (between 0 (0 + m) (before .entries)) (between 0 (before .rows .used) (before .rows .rows))
@@ -134,6 +136,9 @@ module _ (s : List ℕ) (p : Bool) (c : Cursor) {rows : List Row} {es : List Ent
             own-sound (length s) own (drop (rowsOf (take m (r .entries))) (r .rows .rows)) ∙ rw (← own-rows) (rw own-entries at (q .sound g));
         tidy = λ g. record { each = q .ready .each g; entries = q .ready .rest; rows = rw both-count (q .ready .free .rest) };
         absent = b .second .absent;
+        few = let w = q .ready .free .few in let e = first-count in let u = own-count in omega arith;
+        rows = q .ready .free .long;
+        entries = q .ready .long;
       }
 
 -- ---- round by round

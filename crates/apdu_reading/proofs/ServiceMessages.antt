@@ -14,6 +14,7 @@ use Rattle.apdu_format.specs.Rules.{present}
 use Rattle.apdu_format.specs.Reading.{Value, fields}
 use Rattle.apdu.specs.declared.lists.Row.{Row}
 use Rattle.apdu.specs.declared.lists.Lists.{Lists}
+use Rattle.apdu.specs.declared.due.Due.{Due}
 use Rattle.apdu.specs.declared.records.Request.{Request}
 use Rattle.apdu.specs.declared.records.ActionResponse.{ActionResponse}
 use Rattle.apdu.specs.declared.records.Response.{Response}
@@ -24,14 +25,15 @@ use Rattle.apdu.specs.declared.records.Message.{Message}
 use Rattle.apdu.specs.declared.records.Message.the-variants as kind
 use Rattle.apdu.specs.Values.{bitOf, num-if, if, str, idList, requestValues, actionResponseValues, responseValues, setRequestValues, getRequestValues, getResponseValues, valuesOf, emptyRow, emptyEntry}
 use Rattle.apdu.specs.Tidy.{Absent, RowsTidy, requestTidy, actionResponseTidy, responseTidy, setRequestTidy, getRequestTidy, getResponseTidy, messageTidy}
-use Rattle.apdu.specs.Sound.{nested, requestSound, actionResponseSound, setRequestSound, getRequestSound, getResponseSound, sound}
+use Rattle.apdu.specs.Sound.{nested, requestSound, actionResponseSound, setRequestSound, getRequestSound, getResponseSound, sound, countIf, rowsPresent}
 use Rattle.apdu.proofs.Laws.{sound-if}
+use Rattle.apdu.proofs.Formed.{count-le, rows-fit}
 use Rattle.apdu.proofs.Dues.{two, one}
 use Rattle.apdu_reading.specs.declared.cursor.Cursor.{Cursor}
 use Rattle.apdu_reading.specs.declared.container.Head.{Head}
 use Rattle.apdu_reading.specs.declared.rows.Rows.{Rows}
 use Rattle.apdu_reading.specs.declared.services.Opened.{Opened}
-use Rattle.apdu_reading.specs.Cursor.{component, pieceOf, Reads, Inside}
+use Rattle.apdu_reading.specs.Cursor.{component, pieceOf, ReadsTo, Inside}
 use Rattle.apdu_reading.specs.Lists.{Ready, Filled}
 use Rattle.apdu_reading.specs.Optional.{Maybe, HeadMaybe, AttributesMaybe}
 use Rattle.apdu_reading.specs.Answers.{Chosen}
@@ -56,6 +58,10 @@ absent-box b h = record { are = λ z. (b .absent z .0, (b .absent z .1, (b .abse
 
 absent-list : {s : List ℕ} {p : Bool} {c : Cursor} {count : ℕ} {r : Rows} → Listed s p c count r → r .cursor .fault ≡ 0 → Absent p (count ∷ r .used ∷ [])
 absent-list b h = record { are = λ z. (b .absent z, (b .kept .none z h, tt)) }
+
+-- a list that may be absent has no more rows than are read
+list-few : (p : Bool) {s : List ℕ} {o : Due} {r q : Rows} → Filled s o r q → countIf p (q .used) ≤ 32
+list-few p {q = q} f = let k = count-le p (q .used) in let u = f .few in omega arith
 
 abbrev actionResponseOf : Bool → Bool → Bool → ℕ → Cursor → Cursor → Head → ℕ → ℕ → ActionResponse
 actionResponseOf x y z w eid iid hd rows ret =
@@ -113,7 +119,7 @@ requestOf x y z w eid service cred hd rows iid =
 
 -- from c to r a message of kind k is read, with these values, and is tidy and sound
 record KindRead (s : List ℕ) (k : ℕ) (c r : Cursor) (vs : List Value) (Fine : Type 0) (good : Bool) : Type 0 where
-  reads : Reads s (lead k ∷ []) c r vs
+  reads : ReadsTo s (lead k ∷ []) c r vs
   fine : r .fault ≡ 0 → Fine
   right : r .fault ≡ 0 → good ≡ true
 
@@ -123,8 +129,16 @@ beside rs = record { entries = replicate 32 emptyEntry; rows = rs }
 module _ (s : List ℕ) (c : Cursor) (h : Chosen s c) where
   message-read : {k : ℕ} → c .value ≡ k → {r : Cursor} {vs : List Value} {Fine : Type 0} {good : Bool} → KindRead s k c r vs Fine good → (m : Message) (rs : List Row)
       → valuesOf s m (replicate 32 emptyEntry) rs ≡ fields (k ∷ []) ∷ vs → (Fine → messageTidy m (replicate 32 emptyEntry) rs)
-      → sound (length s) m (replicate 32 emptyEntry) rs ≡ good → MessageRead s r m (beside rs)
-  message-read {k} e p m rs v t w = record { reads = rw v (chosen s c h k e (p .reads)); tidy = λ z. t (p .fine z); sound = λ z. w ∙ p .right z }
+      → sound (length s) m (replicate 32 emptyEntry) rs ≡ good → rowsPresent m (replicate 32 emptyEntry) ≤ 32 → length rs ≡ 32 → MessageRead s r m (beside rs)
+  message-read {k} e p m rs v t w few long =
+      record {
+        reads = rw v (chosen s c h k e (p .reads));
+        tidy = λ z. t (p .fine z);
+        sound = λ z. w ∙ p .right z;
+        few = rows-fit m (replicate 32 emptyEntry) few;
+        rows = long;
+        entries = refl;
+      }
 
   kind-as : {j k : ℕ} {r : Cursor} {vs : List Value} {Fine : Type 0} {good : Bool} → layoutOf j ≡ layoutOf k → KindRead s j c r vs Fine good → KindRead s k c r vs Fine good
   kind-as {j} {k} e p = record { reads = lead-as s j k c e (p .reads); fine = p .fine; right = p .right }
@@ -163,14 +177,14 @@ module _ (s : List ℕ) (c : Cursor) (h : Chosen s c) where
           }
 
       pub event-response-opens : c .value ≡ 3 → Opens s (record { cursor = ret; d1 = 0; d2 = 0; last = false; message = kind.EventResponse responseOf })
-      unfolding valuesOf messageTidy sound closedBy
+      unfolding valuesOf messageTidy sound rowsPresent closedBy
       event-response-opens v =
-          record { room = response-room; whole = λ q r f m. message-read v (response-read f m) (kind.EventResponse responseOf) (q .rows) refl (λ t. (t .0, no-entries-tidy refl, t .1)) refl }
+          record { room = response-room; whole = λ q r f m. message-read v (response-read f m) (kind.EventResponse responseOf) (q .rows) refl (λ t. (t .0, no-entries-tidy refl, t .1)) refl (omega arith) (f .long) }
 
       pub set-response-opens : c .value ≡ 5 → Opens s (record { cursor = ret; d1 = 0; d2 = 0; last = false; message = kind.SetResponse responseOf })
-      unfolding valuesOf messageTidy sound closedBy layoutOf
+      unfolding valuesOf messageTidy sound rowsPresent closedBy layoutOf
       set-response-opens v =
-          record { room = response-room; whole = λ q r f m. message-read v (kind-as {j = 3} refl (response-read f m)) (kind.SetResponse responseOf) (q .rows) refl (λ t. (t .0, no-entries-tidy refl, t .1)) refl }
+          record { room = response-room; whole = λ q r f m. message-read v (kind-as {j = 3} refl (response-read f m)) (kind.SetResponse responseOf) (q .rows) refl (λ t. (t .0, no-entries-tidy refl, t .1)) refl (omega arith) (f .long) }
 
     module _ {x y z : Bool} {w : ℕ} (fx : bitOf x ≡ field s 4 1) (fy : bitOf y ≡ field s 5 1) (fz : bitOf z ≡ field s 6 1) (fw : w ≡ readField s 7 1) where
       module _ {eid iid : Cursor} {hd : Head} (a : Integer s p eid) (d : MaybeInteger s x eid iid) (g : HeadMaybe s y iid hd) {n : ℕ} (e : n ≡ nested (hd .kind) (hd .n)) where
@@ -190,12 +204,12 @@ module _ (s : List ℕ) (c : Cursor) (h : Chosen s c) where
             }
 
         pub action-response-opens : c .value ≡ 1 → Opens s (record { cursor = hd .cursor; d1 = 0; d2 = n; last = z; message = kind.ActionResponse (actionResponseOf x y z w eid iid hd 0 0) })
-        unfolding valuesOf messageTidy sound closedBy
+        unfolding valuesOf messageTidy sound rowsPresent closedBy
         action-response-opens v =
             record {
               room = box-room s y iid g e (d .room ∙ room-after a);
               whole = λ q r f m.
-                  message-read v (action-response-read f m) (kind.ActionResponse (actionResponseOf x y z w eid iid hd (q .used) (r .value))) (q .rows) refl (λ t. (t .0, no-entries-tidy refl, t .1)) refl;
+                  message-read v (action-response-read f m) (kind.ActionResponse (actionResponseOf x y z w eid iid hd (q .used) (r .value))) (q .rows) refl (λ t. (t .0, no-entries-tidy refl, t .1)) refl (list-few y f) (f .long);
             }
 
       module _ {eid iid list : Cursor} (a : Integer s p eid) (d : MaybeInteger s x eid iid) (g : AttributesMaybe s y iid list) where
@@ -215,12 +229,12 @@ module _ (s : List ℕ) (c : Cursor) (h : Chosen s c) where
             }
 
         pub get-response-opens : c .value ≡ 7 → Opens s (record { cursor = list; d1 = list .value; d2 = 0; last = z; message = kind.GetResponse (getResponseOf x y z w eid iid list 0 0) })
-        unfolding valuesOf messageTidy sound closedBy
+        unfolding valuesOf messageTidy sound rowsPresent closedBy
         get-response-opens v =
             record {
               room = list-room s y iid g (d .room ∙ room-after a);
               whole = λ q r f m.
-                  message-read v (get-response-read f m) (kind.GetResponse (getResponseOf x y z w eid iid list (q .used) (r .value))) (q .rows) refl (λ t. (t .0, no-entries-tidy refl, t .1)) refl;
+                  message-read v (get-response-read f m) (kind.GetResponse (getResponseOf x y z w eid iid list (q .used) (r .value))) (q .rows) refl (λ t. (t .0, no-entries-tidy refl, t .1)) refl (list-few y f) (f .long);
             }
 
       module _ {eid cred iid ids : Cursor} (a : Integer s p eid) (d : MaybeString s x eid cred) (g : MaybeInteger s y cred iid)
@@ -258,11 +272,11 @@ module _ (s : List ℕ) (c : Cursor) (h : Chosen s c) where
             }
 
         pub get-request-opens : c .value ≡ 6 → Opens s (record { cursor = ids; d1 = 0; d2 = 0; last = false; message = kind.GetRequest getRequestOf })
-        unfolding valuesOf messageTidy sound closedBy
+        unfolding valuesOf messageTidy sound rowsPresent closedBy
         get-request-opens v =
             record {
               room = λ u. let r : ids .room ≡ 32 = e .0 .room ∙ g .room ∙ d .0 .room ∙ room-after a in omega arith;
-              whole = λ q r f m. message-read v (get-request-read f m) (kind.GetRequest getRequestOf) (q .rows) refl (λ t. (t .0, no-entries-tidy refl, t .1)) refl;
+              whole = λ q r f m. message-read v (get-request-read f m) (kind.GetRequest getRequestOf) (q .rows) refl (λ t. (t .0, no-entries-tidy refl, t .1)) refl (omega arith) (f .long);
             }
 
     module _ {x y : Bool} {z : ℕ} (w : Bool) (fx : bitOf x ≡ field s 4 1) (fy : bitOf y ≡ field s 5 1) (fz : z ≡ readField s 6 1) (fw : bitOf w ≡ field s 7 1)
@@ -283,12 +297,12 @@ module _ (s : List ℕ) (c : Cursor) (h : Chosen s c) where
           }
 
       pub set-request-opens : c .value ≡ 4 → Opens s (record { cursor = list; d1 = list .value; d2 = 0; last = y; message = kind.SetRequest (setRequestOf x y z w eid cred list 0 0) })
-      unfolding valuesOf messageTidy sound closedBy
+      unfolding valuesOf messageTidy sound rowsPresent closedBy
       set-request-opens v =
           record {
             room = list-room s true cred g (d .0 .room ∙ room-after a);
             whole = λ q r f m.
-                message-read v (set-request-read f m) (kind.SetRequest (setRequestOf x y z w eid cred list (q .used) (r .value))) (q .rows) refl (λ t. (t .0, no-entries-tidy refl, t .1)) refl;
+                message-read v (set-request-read f m) (kind.SetRequest (setRequestOf x y z w eid cred list (q .used) (r .value))) (q .rows) refl (λ t. (t .0, no-entries-tidy refl, t .1)) refl (f .few) (f .long);
           }
 
     module _ {x y z : Bool} (w : Bool) (fx : bitOf x ≡ field s 4 1) (fy : bitOf y ≡ field s 5 1) (fz : bitOf z ≡ field s 6 1) (fw : bitOf w ≡ field s 7 1)
@@ -310,21 +324,21 @@ module _ (s : List ℕ) (c : Cursor) (h : Chosen s c) where
           }
 
       pub action-request-opens : c .value ≡ 0 → Opens s (record { cursor = hd .cursor; d1 = 0; d2 = n; last = z; message = kind.ActionRequest (requestOf x y z w eid service cred hd 0 0) })
-      unfolding valuesOf messageTidy sound closedBy
+      unfolding valuesOf messageTidy sound rowsPresent closedBy
       action-request-opens v =
           record {
             room = box-room s y cred g e (d .0 .room ∙ integer-room s eid (i .0) ∙ room-after a);
             whole = λ q r f m.
-                message-read v (request-read f m) (kind.ActionRequest (requestOf x y z w eid service cred hd (q .used) (r .value))) (q .rows) refl (λ t. (t .0, no-entries-tidy refl, t .1)) refl;
+                message-read v (request-read f m) (kind.ActionRequest (requestOf x y z w eid service cred hd (q .used) (r .value))) (q .rows) refl (λ t. (t .0, no-entries-tidy refl, t .1)) refl (list-few y f) (f .long);
           }
 
       pub event-request-opens : c .value ≡ 2 → Opens s (record { cursor = hd .cursor; d1 = 0; d2 = n; last = z; message = kind.EventRequest (requestOf x y z w eid service cred hd 0 0) })
-      unfolding valuesOf messageTidy sound closedBy layoutOf
+      unfolding valuesOf messageTidy sound rowsPresent closedBy layoutOf
       event-request-opens v =
           record {
             room = box-room s y cred g e (d .0 .room ∙ integer-room s eid (i .0) ∙ room-after a);
             whole = λ q r f m.
-                message-read v (kind-as {j = 0} refl (request-read f m)) (kind.EventRequest (requestOf x y z w eid service cred hd (q .used) (r .value))) (q .rows) refl (λ t. (t .0, no-entries-tidy refl, t .1)) refl;
+                message-read v (kind-as {j = 0} refl (request-read f m)) (kind.EventRequest (requestOf x y z w eid service cred hd (q .used) (r .value))) (q .rows) refl (λ t. (t .0, no-entries-tidy refl, t .1)) refl (list-few y f) (f .long);
           }
 
 -- ---- the rows and the number behind them

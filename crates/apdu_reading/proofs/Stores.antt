@@ -13,7 +13,7 @@ use Rattle.apdu.specs.Tidy.{EntriesTidy, entryTidy}
 use Rattle.apdu.specs.Sound.{entriesSound}
 use Rattle.apdu_reading.specs.declared.cursor.Cursor.{Cursor}
 use Rattle.apdu_reading.specs.declared.rows.Rows.{Rows}
-use Rattle.apdu_reading.specs.Cursor.{Reads}
+use Rattle.apdu_reading.specs.Cursor.{ReadsTo}
 use Rattle.apdu_reading.specs.Lists.{Leads, between}
 use Rattle.apdu_reading.specs.Applications.{Open, Grown}
 
@@ -30,7 +30,7 @@ pub record StoreReady (base : ℕ) (a : Applications) : Type 0 where
   pub each : a .rows .cursor .fault ≡ 0 → (j : ℕ) → entryTidy (getD (a .entries) j emptyEntry)
 
 pub record Stored (s : List ℕ) (base : ℕ) (a : Applications) (n : ℕ) (r : Applications) : Type 0 where
-  pub reads : Reads s (times n (entry ∷ [])) (a .rows .cursor) (r .rows .cursor)
+  pub reads : ReadsTo s (times n (entry ∷ [])) (a .rows .cursor) (r .rows .cursor)
       (entriesValues s (between base (base + n) (r .entries)) (between (a .rows .used) (r .rows .used) (r .rows .rows)))
   pub grown : Grown (a .rows) (r .rows)
   pub sound : r .rows .cursor .fault ≡ 0

@@ -19,14 +19,14 @@ use Rattle.apdu_format.specs.Reading.{Value, fields, string, numbersOf, sum, ne
 use Rattle.apdu.specs.Values.{num, str, idsAt, idList}
 use Rattle.apdu_reading.specs.declared.cursor.Cursor.{Cursor}
 use Rattle.bits.specs.Strings.{isInside}
-use Rattle.apdu_reading.specs.Cursor.{cursor, stateOf, component, markedAt, Reads, Inside}
+use Rattle.apdu_reading.specs.Cursor.{cursor, stateOf, component, markedAt, ReadsTo, Inside}
 use Rattle.apdu_reading.proofs.Pieces.{sees, good, fine, room-kept, piece-read}
 use Rattle.apdu_reading.proofs.Components.{count-extended, start-is}
 use Rattle.apdu_reading.proofs.Numbers.{integer-extended, extended-read, extended-saw}
 use Rattle.apdu_reading.proofs.Chains.{Same, same, itself, valued, nothing, then, saying, still, clean, enter, alone}
 
 -- an integer by itself
-pub integer-reads : (s : List ℕ) (c : Cursor) {d : Cursor} → d ≡ component s integer c → Reads s (integer ∷ []) c d (num (d .value) ∷ [])
+pub integer-reads : (s : List ℕ) (c : Cursor) {d : Cursor} → d ≡ component s integer c → ReadsTo s (integer ∷ []) c d (num (d .value) ∷ [])
 unfolding brings
 integer-reads s c {d} e =
     rw e (valued (λ h. ap (λ (v : Value). v ∷ []) (extended-saw integer-extended s c h)) (alone s integer c refl refl))
@@ -73,19 +73,19 @@ module _ (s : List ℕ) (c : Cursor) {f l o : Cursor} (x : f ≡ component s str
   unfolding shape valueAt fieldsOf
   length-saw h = rw (length-value h)
 
-  octets-reads : Reads s (stringOctets (l .value) ∷ []) l o (sees s (stringOctets (l .value)) l ∷ [])
+  octets-reads : ReadsTo s (stringOctets (l .value) ∷ []) l o (sees s (stringOctets (l .value)) l ∷ [])
   unfolding brings
   octets-reads = alone s (stringOctets (l .value)) l z refl
 
-  length-reads : Reads s (stringLength ∷ []) f o (sees s stringLength f ∷ sees s (stringOctets (l .value)) l ∷ [])
+  length-reads : ReadsTo s (stringLength ∷ []) f o (sees s stringLength f ∷ sees s (stringOctets (l .value)) l ∷ [])
   unfolding brings numbersOf
   length-reads = enter stringLength f y (λ h. rw (length-saw h) octets-reads) (λ h. still octets-reads h)
 
-  form-reads : Reads s (stringForm ∷ []) c o (sees s stringForm c ∷ sees s stringLength f ∷ sees s (stringOctets (l .value)) l ∷ [])
+  form-reads : ReadsTo s (stringForm ∷ []) c o (sees s stringForm c ∷ sees s stringLength f ∷ sees s (stringOctets (l .value)) l ∷ [])
   unfolding brings
   form-reads = enter stringForm c x (λ h. length-reads) (λ h. still length-reads h)
 
-  pub string-reads : Reads s (stringForm ∷ []) c (markedAt o (l .value) (l .at)) (str s (l .at) (l .value))
+  pub string-reads : ReadsTo s (stringForm ∷ []) c (markedAt o (l .value) (l .at)) (str s (l .at) (l .value))
   unfolding markedAt shape valueAt
   string-reads =
       saying
@@ -115,7 +115,7 @@ times-snoc (suc n) is = ap (λ (x : List Component). is ++ x) (times-snoc n is) 
 
 -- i ids behind d
 pub record Ids (s : List ℕ) (d : Cursor) (i : ℕ) (e : Cursor) : Type 0 where
-  pub reads : Reads s (times i (integer ∷ [])) d e (idsAt s (d .at) i)
+  pub reads : ReadsTo s (times i (integer ∷ [])) d e (idsAt s (d .at) i)
   pub at : e .fault ≡ 0 → e .at ≡ d .at + 8 * i
   pub there : e .fault ≡ 0 → d .at ≤ 8 * length s → e .at ≤ 8 * length s
   pub room : e .room ≡ d .room
@@ -125,7 +125,7 @@ unfolding times idsAt
 ids-none s d = record { reads = nothing s (itself d); at = λ h. omega arith; there = λ h k. k; room = refl }
 
 module _ (s : List ℕ) (d : Cursor) (i : ℕ) {e f : Cursor} (p : Ids s d i e) (x : f ≡ component s integer e) where
-  one-reads : Reads s (integer ∷ []) e f (sees s integer e ∷ [])
+  one-reads : ReadsTo s (integer ∷ []) e f (sees s integer e ∷ [])
   unfolding brings
   one-reads = alone s integer e x refl
 
@@ -161,7 +161,7 @@ module _ (s : List ℕ) (c : Cursor) {d : Cursor} (x : d ≡ component s idCount
   start-same h = record { so = λ log. rw (add-zero (d .at), h, start-there h .1) }
 
   -- where the ids start
-  start-reads : d .fault ≡ 0 → Reads s (listStart ∷ []) d d (string (d .at) [] ∷ [])
+  start-reads : d .fault ≡ 0 → ReadsTo s (listStart ∷ []) d d (string (d .at) [] ∷ [])
   unfolding brings shape valueAt
   start-reads h = saying (alone s listStart d refl refl) (rw (start-moved h) (start-same h))
 
@@ -169,11 +169,11 @@ module _ (s : List ℕ) (c : Cursor) {d : Cursor} (x : d ≡ component s idCount
     count-saw : d .fault ≡ 0 → sees s idCount c ≡ num n
     count-saw h = extended-saw count-extended s c (fault-of x h) ∙ ap (λ (q : Cursor). num (q .value)) (sym x) ∙ ap num (sym all)
 
-    ids-reads : d .fault ≡ 0 → Reads s (brings idCount (numbersOf (sees s idCount c))) d e ((string (d .at) [] ∷ []) ++ idsAt s (d .at) n)
+    ids-reads : d .fault ≡ 0 → ReadsTo s (brings idCount (numbersOf (sees s idCount c))) d e ((string (d .at) [] ∷ []) ++ idsAt s (d .at) n)
     unfolding brings numbersOf
     ids-reads h = rw (count-saw h) (then (start-reads h) (p .reads))
 
-    pub list-reads : Reads s (idCount ∷ []) c (markedAt e n (d .at)) (idList s (d .at) n)
+    pub list-reads : ReadsTo s (idCount ∷ []) c (markedAt e n (d .at)) (idList s (d .at) n)
     unfolding markedAt
     list-reads =
         saying (valued (λ h. let a : d .fault ≡ 0 = clean (p .reads) h in rw (count-saw a)) (enter idCount c x ids-reads (λ h. still (p .reads) h))) (same e n (d .at))
@@ -197,13 +197,13 @@ module _ (s : List ℕ) (c : Cursor) {d : Cursor} (x : d ≡ component s idCount
 -- a string is read, with its length and its start
 pub string-by : (s : List ℕ) (c : Cursor) {f l o r : Cursor} → f ≡ component s stringForm c → l ≡ component s stringLength f → o ≡ component s (stringOctets (l .value)) l
     → r ≡ markedAt o (l .value) (l .at) → l .value < 128
-    → Reads s (stringForm ∷ []) c r (str s (r .start) (r .value)) × (r .value < 128) × (r .room ≡ c .room) × Inside s true r
+    → ReadsTo s (stringForm ∷ []) c r (str s (r .start) (r .value)) × (r .value < 128) × (r .room ≡ c .room) × Inside s true r
 unfolding markedAt
 string-by s c x y z m k = rw m (string-reads s c x y z, k, string-room s c x y z, string-inside s c x y z)
 
 pub list-by : (s : List ℕ) (c : Cursor) {d : Cursor} → d ≡ component s idCount c → (n : ℕ) {e r : Cursor} → Ids s d n e → n ≡ d .value
     → r ≡ markedAt e (d .value) (d .at) → d .value ≤ 16
-    → Reads s (idCount ∷ []) c r (idList s (r .start) (r .value)) × (r .value < 128) × (r .room ≡ c .room) × Inside s true r
+    → ReadsTo s (idCount ∷ []) c r (idList s (r .start) (r .value)) × (r .value < 128) × (r .room ≡ c .room) × Inside s true r
 unfolding markedAt
 list-by s c {d} x n {e} p all m k =
     let v : markedAt e (d .value) (d .at) ≡ markedAt e n (d .at) = ap (λ (v : ℕ). markedAt e v (d .at)) (sym all) in

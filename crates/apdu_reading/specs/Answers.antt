@@ -1,6 +1,7 @@
 -- What the reader's answer says, in the words of apdu_format's definitions: for each of its cases 01's number and position, or the message's values in
 -- their order and the place behind them. Tidy says that absent fields, unused rows and entries are 0, and so is everything beside a refusal. SoundRecord says
--- that each part which is present lies inside the octets read, and that each list has the rows that its counts announce: what 23 asks besides ranges.
+-- that each part which is present lies inside the octets read, and that each list has the rows that its counts announce; FewRows, that the rows of what is
+-- present are at most 32: what 23 asks besides ranges. The arrays of rows and of entries have 32 elements. Reads is all of it: what `read` promises.
 -- Assumes nothing.
 use Prim.Native.Nat.{ℕ, _*_, _/_}
 use mathlib.Core.Path.{_≡_}
@@ -15,7 +16,7 @@ use Rattle.apdu.specs.declared.lists.Lists.{Lists}
 use Rattle.apdu.specs.declared.records.Message.{Message}
 use Rattle.apdu.specs.Values.{valuesOf, emptyRow, emptyEntry}
 use Rattle.apdu.specs.Tidy.{messageTidy, EntriesTidy, RowsTidy}
-use Rattle.apdu.specs.Sound.{sound}
+use Rattle.apdu.specs.Sound.{sound, rowsFit}
 use Rattle.apdu_reading.specs.declared.cursor.Cursor.{Cursor}
 use Rattle.apdu_reading.specs.declared.front.Answer.{Answer}
 use Rattle.apdu_reading.specs.declared.front.Answer.the-variants as answer
@@ -42,6 +43,22 @@ soundBy octets l (answer.Refused k p) = Unit {0}
 
 pub record SoundRecord (s : List ℕ) (r : Reading) : Type 0 where
   pub is : soundBy (length s) (r .lists) (r .answer)
+
+unfoldable pub fewBy : Lists → Answer → Type 0
+fewBy l (answer.Message m) = rowsFit m (l .entries) ≡ true
+fewBy l (answer.Refused k p) = Unit {0}
+
+pub record FewRows (r : Reading) : Type 0 where
+  pub is : fewBy (r .lists) (r .answer)
+
+-- r is what reading s answers
+pub record Reads (s : List ℕ) (r : Reading) : Type 0 where
+  pub outcome : outcomeOf s r ≡ readMessage s
+  pub tidy : Tidy r
+  pub sound : SoundRecord s r
+  pub few : FewRows r
+  pub rows : length (r .lists .rows) ≡ 32
+  pub entries : length (r .lists .entries) ≡ 32
 
 -- ---- within the crate
 
@@ -70,9 +87,3 @@ answerOf c m = pick (eqb (c .fault) 0) (answer.Message m) (answer.Refused (c .fa
 
 unfoldable pub placeOf : Cursor → ℕ
 placeOf c = pick (eqb (c .fault) 0) (c .at) 0
-
--- what read ensures
-pub record Answered (s : List ℕ) (r : Reading) : Type 0 where
-  pub outcome : outcomeOf s r ≡ readMessage s
-  pub tidy : Tidy r
-  pub sound : SoundRecord s r

@@ -19,7 +19,7 @@ use Rattle.apdu_reading.specs.declared.rows.Rows.{Rows}
 use Rattle.apdu_reading.specs.declared.applications.EntryHead.{EntryHead}
 use Rattle.apdu_reading.specs.declared.applications.EntryRead.{EntryRead}
 use Rattle.apdu_reading.specs.declared.link.Configuration.{Configuration}
-use Rattle.apdu_reading.specs.Cursor.{Reads}
+use Rattle.apdu_reading.specs.Cursor.{ReadsTo}
 use Rattle.apdu.specs.RowCounters.{row}
 use Rattle.apdu_reading.specs.Lists.{Leads, between}
 
@@ -50,7 +50,7 @@ pub record Grown (r q : Rows) : Type 0 where
 
 -- an entry with its rows
 pub record EntryWhole (s : List ℕ) (r : Rows) (q : EntryRead) : Type 0 where
-  pub reads : Reads s (entry ∷ []) (r .cursor) (q .rows .cursor) (entryValues s (q .entry) (between (r .used) (q .rows .used) (q .rows .rows)))
+  pub reads : ReadsTo s (entry ∷ []) (r .cursor) (q .rows .cursor) (entryValues s (q .entry) (between (r .used) (q .rows .used) (q .rows .rows)))
   pub grown : Grown r (q .rows)
   pub rows : r .used + entryRows (q .entry) ≡ q .rows .used
   pub sound : q .rows .cursor .fault ≡ 0 → entrySound (length s) (q .entry) (between (r .used) (q .rows .used) (q .rows .rows)) ≡ true
@@ -76,16 +76,19 @@ otherRows m l = drop (rowsOf (firstEntries m l)) (l .rows)
 
 -- the application lists of a message, of m entries and of o, from c to e; the second is there if p says so; with whatever is read behind them
 pub record ListsWhole (s : List ℕ) (p : Bool) (c : Cursor) (m o : ℕ) (e : Cursor) (l : Lists) : Type 0 where
-  pub reads : {is : List Component} {q : Cursor} {vs : List Value} → Reads s is e q vs
-      → Reads s (entryCount ∷ (when p (entryCount ∷ []) ++ is)) c q
+  pub reads : {is : List Component} {q : Cursor} {vs : List Value} → ReadsTo s is e q vs
+      → ReadsTo s (entryCount ∷ (when p (entryCount ∷ []) ++ is)) c q
       (listValues s m (firstEntries m l) (l .rows) ++ (if p (listValues s o (otherEntries m o l) (otherRows m l)) ++ vs))
   pub first : e .fault ≡ 0 → entriesSound (length s) (firstEntries m l) (take (rowsOf (firstEntries m l)) (l .rows)) ≡ true
   pub second : e .fault ≡ 0 → entriesSound (length s) (otherEntries m o l) (otherRows m l) ≡ true
   pub tidy : e .fault ≡ 0 → ListsTidy (m + o) (l .entries) (l .rows)
   pub absent : p ≡ false → o ≡ 0
+  pub few : rowsOf (firstEntries m l) + rowsOf (otherEntries m o l) ≤ 32
+  pub rows : length (l .rows) ≡ 32
+  pub entries : length (l .entries) ≡ 32
 
 -- the configuration of a VST
 pub record ConfigurationRead (s : List ℕ) (c : Cursor) (r : Configuration) : Type 0 where
-  pub reads : Reads s (class ∷ []) c (r .cursor)
+  pub reads : ReadsTo s (class ∷ []) c (r .cursor)
       (fields (bitOf (r .«has_status») ∷ r .class ∷ []) ∷ fields (r .maker ∷ []) ∷ if (r .«has_status») (fields (r .status ∷ []) ∷ []))
   pub absent : Absent (r .«has_status») (r .status ∷ [])

@@ -30,7 +30,7 @@ component s i c =
     cursor (d .at) (d .begun) (d .room) (d .fault) (d .position) (pick (eqb (d .fault) 0) (readField s (c .at) (need (shape i))) 0) 0
 
 -- from c to r the reader reads the components is, with these values
-pub record Reads (s : List ℕ) (is : List Component) (c r : Cursor) (vs : List Value) : Type 0 where
+pub record ReadsTo (s : List ℕ) (is : List Component) (c r : Cursor) (vs : List Value) : Type 0 where
   pub so : (log : List Value) → runs (bits s) is (stateOf c log) ≡ stateOf r (log ++ vs)
 
 -- the part that was read, if p says that it is there, lies inside the octets

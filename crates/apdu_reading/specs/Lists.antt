@@ -14,7 +14,7 @@ use Rattle.apdu.specs.Sound.{rowsSound}
 use Rattle.apdu_reading.specs.declared.cursor.Cursor.{Cursor}
 use Rattle.apdu.specs.declared.due.Due.{Due}
 use Rattle.apdu_reading.specs.declared.rows.Rows.{Rows}
-use Rattle.apdu_reading.specs.Cursor.{stateOf, Reads}
+use Rattle.apdu_reading.specs.Cursor.{stateOf, ReadsTo}
 use Rattle.apdu.specs.RowCounters.{total, dueList}
 
 -- reading the components is from c comes to reading js from r, with these values
@@ -34,7 +34,7 @@ pub record Ready (o : Due) (r : Rows) : Type 0 where
 
 -- from r to q the due rows are read
 pub record Filled (s : List ℕ) (o : Due) (r q : Rows) : Type 0 where
-  pub reads : Reads s (dueList o) (r .cursor) (q .cursor) (rowsValues s (between (r .used) (q .used) (q .rows)))
+  pub reads : ReadsTo s (dueList o) (r .cursor) (q .cursor) (rowsValues s (between (r .used) (q .used) (q .rows)))
   pub sum : q .cursor .fault ≡ 0 → q .cursor .room + q .used ≡ 32
   pub more : r .used ≤ q .used
   pub sound : q .cursor .fault ≡ 0 → rowsSound (length s) (total o) (between (r .used) (q .used) (q .rows)) ≡ true

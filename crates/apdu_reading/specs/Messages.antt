@@ -18,13 +18,13 @@ use Rattle.apdu.specs.declared.records.Message.{Message}
 use Rattle.apdu.specs.declared.records.Message.the-variants as kind
 use Rattle.apdu.specs.Values.{bitOf, num, num-if, valuesOf, emptyRow, emptyEntry}
 use Rattle.apdu.specs.Tidy.{messageTidy}
-use Rattle.apdu.specs.Sound.{sound}
+use Rattle.apdu.specs.Sound.{sound, rowsFit}
 use Rattle.apdu_reading.specs.declared.cursor.Cursor.{Cursor}
 use Rattle.apdu_reading.specs.declared.rows.Rows.{Rows}
 use Rattle.apdu_reading.specs.declared.services.Opened.{Opened}
 use Rattle.apdu_reading.specs.declared.link.LinkFront.{LinkFront}
 use Rattle.apdu_reading.specs.declared.link.LinkEnd.{LinkEnd}
-use Rattle.apdu_reading.specs.Cursor.{Reads}
+use Rattle.apdu_reading.specs.Cursor.{ReadsTo}
 use Rattle.apdu_reading.specs.Lists.{Filled}
 use Rattle.apdu_reading.specs.Optional.{Maybe}
 use Rattle.apdu_reading.specs.Applications.{ListsWhole}
@@ -37,20 +37,23 @@ pub record Begun (c : Cursor) : Type 0 where
 
 -- a whole message is read, up to r
 pub record MessageRead (s : List ℕ) (r : Cursor) (m : Message) (l : Lists) : Type 0 where
-  pub reads : Reads s (choice ∷ []) first r (valuesOf s m (l .entries) (l .rows))
+  pub reads : ReadsTo s (choice ∷ []) first r (valuesOf s m (l .entries) (l .rows))
   pub tidy : r .fault ≡ 0 → messageTidy m (l .entries) (l .rows)
   pub sound : r .fault ≡ 0 → sound (length s) m (l .entries) (l .rows) ≡ true
+  pub few : rowsFit m (l .entries) ≡ true
+  pub rows : length (l .rows) ≡ 32
+  pub entries : length (l .entries) ≡ 32
 
 -- ---- the link: a message up to its application lists, and the message once they and what is behind them are read
 
 pub record FrontRead (s : List ℕ) (f : LinkFront) : Type 0 where
   pub room : f .cursor .room ≡ 32
   pub bst : f .choice ≡ 8 → {r : Cursor} {vs : List Value}
-      → Reads s (entryCount ∷ (when (f .«has_others») (entryCount ∷ []) ++ (idCount ∷ []))) (f .cursor) r vs
-      → Reads s (choice ∷ []) first r
+      → ReadsTo s (entryCount ∷ (when (f .«has_others») (entryCount ∷ []) ++ (idCount ∷ []))) (f .cursor) r vs
+      → ReadsTo s (choice ∷ []) first r
       (fields (8 ∷ []) ∷ fields (bitOf (f .«has_others») ∷ f .manufacturer ∷ f .individual ∷ []) ∷ fields (f .time ∷ []) ∷ num (f .profile) ∷ vs)
-  pub vst : (f .choice ≡ 8 → ⊥) → {r : Cursor} {vs : List Value} → Reads s (entryCount ∷ class ∷ []) (f .cursor) r vs
-      → Reads s (choice ∷ []) first r (fields (9 ∷ []) ∷ fields (f .fill ∷ []) ∷ num (f .profile) ∷ vs)
+  pub vst : (f .choice ≡ 8 → ⊥) → {r : Cursor} {vs : List Value} → ReadsTo s (entryCount ∷ class ∷ []) (f .cursor) r vs
+      → ReadsTo s (choice ∷ []) first r (fields (9 ∷ []) ∷ fields (f .fill ∷ []) ∷ num (f .profile) ∷ vs)
   pub only : (f .choice ≡ 8 → ⊥) → f .«has_others» ≡ false
 
 -- whatever the entries and their rows are, with them the message is read

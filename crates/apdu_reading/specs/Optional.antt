@@ -13,13 +13,13 @@ use Rattle.apdu.specs.Tidy.{startTidy}
 use Rattle.apdu.specs.Sound.{nested, partFits}
 use Rattle.apdu_reading.specs.declared.cursor.Cursor.{Cursor}
 use Rattle.apdu_reading.specs.declared.container.Head.{Head}
-use Rattle.apdu_reading.specs.Cursor.{Reads}
+use Rattle.apdu_reading.specs.Cursor.{ReadsTo}
 use Rattle.apdu.specs.RowCounters.{row}
 use Rattle.apdu_reading.specs.Lists.{Leads}
 
 -- a component that announces no rows, if p says that it is there
 pub record Maybe (s : List ℕ) (p : Bool) (is : List Component) (c r : Cursor) (vs : List Value) : Type 0 where
-  pub reads : Reads s (when p is) c r vs
+  pub reads : ReadsTo s (when p is) c r vs
   pub small : r .value < 128
   pub room : r .room ≡ c .room
   pub absent : p ≡ false → (r .value ≡ 0) × (r .start ≡ 0)

@@ -4,7 +4,7 @@ ghost use Prim.Native.Nat.{_≤_};
 ghost use lib.ListN.{length};
 ghost use Rattle.apdu_reading.specs.Applications.{EntryOpens, Open, EntryWhole, CountMaybe};
 ghost use Rattle.apdu_reading.specs.Messages.{FrontRead};
-ghost use Rattle.apdu_reading.specs.Answers.{noLists, Answered};
+ghost use Rattle.apdu_reading.specs.Answers.{noLists, Reads};
 use crate::component::count;
 use crate::component::entry_octet;
 use crate::container::place;
@@ -125,7 +125,7 @@ fn cleared() -> Lists
 // up to the one return, and a refusal clears them in place, so that they are not copied again.
 pub(crate) fn application_lists(s: &[u8], f: LinkFront) -> Reading
     requires { ⌜ (length (now s) ≤ 512) × FrontRead (now s) f ⌝ }
-    ensures { λ r. ⌜ Answered (now (s .entry)) r ⌝ }
+    ensures { λ r. ⌜ Reads (now (s .entry)) r ⌝ }
 {
     let mut cursor = f.cursor;
     let mut used: u64 = 0;

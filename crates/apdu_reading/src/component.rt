@@ -6,7 +6,7 @@ ghost use Prim.Native.Nat.{_<_, _≤_};
 ghost use lib.ListN.{length};
 ghost use Rattle.apdu_format.specs.Component.{integer, stringForm, idCount, rowCount, entryCount, entry, container, choice};
 ghost use Rattle.apdu.specs.Values.{str, idList};
-ghost use Rattle.apdu_reading.specs.Cursor.{component, Reads, Inside};
+ghost use Rattle.apdu_reading.specs.Cursor.{component, ReadsTo, Inside};
 use crate::cursor::Cursor;
 use crate::cursor::judged;
 use crate::cursor::marked;
@@ -80,7 +80,7 @@ pub(crate) fn entry_octet(s: &[u8], c: Cursor) -> Cursor
 // An octet string: its length is the value afterwards, and start the place of its octets.
 pub(crate) fn string(s: &[u8], c: Cursor) -> Cursor
     requires { ⌜ length (now s) ≤ 512 ⌝ }
-    ensures { λ r. ⌜ Reads (now (s .entry)) (stringForm ∷ []) c r (str (now (s .entry)) (r .start) (r .value)) × (r .value < 128) × (r .room ≡ c .room) × Inside (now (s .entry)) true r ⌝ }
+    ensures { λ r. ⌜ ReadsTo (now (s .entry)) (stringForm ∷ []) c r (str (now (s .entry)) (r .start) (r .value)) × (r .value < 128) × (r .room ≡ c .room) × Inside (now (s .entry)) true r ⌝ }
 {
     let p = piece(s, 1, true, c);
     let form = judged(c, refusals::EXTENSION_BIT, p.value == 1, p);
@@ -90,7 +90,7 @@ pub(crate) fn string(s: &[u8], c: Cursor) -> Cursor
 // A list of ids: their number is the value afterwards, and start the place of the first.
 pub(crate) fn id_list(s: &[u8], c: Cursor) -> Cursor
     requires { ⌜ length (now s) ≤ 512 ⌝ }
-    ensures { λ r. ⌜ Reads (now (s .entry)) (idCount ∷ []) c r (idList (now (s .entry)) (r .start) (r .value)) × (r .value < 128) × (r .room ≡ c .room) × Inside (now (s .entry)) true r ⌝ }
+    ensures { λ r. ⌜ ReadsTo (now (s .entry)) (idCount ∷ []) c r (idList (now (s .entry)) (r .start) (r .value)) × (r .value < 128) × (r .room ≡ c .room) × Inside (now (s .entry)) true r ⌝ }
 {
     let d = count(s, c);
     let n = d.value;

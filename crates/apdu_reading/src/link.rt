@@ -3,7 +3,7 @@ ghost use Prim.Native.Nat.{_≤_};
 ghost use lib.ListN.{length};
 ghost use Rattle.apdu_reading.specs.Applications.{ConfigurationRead};
 ghost use Rattle.apdu_reading.specs.Messages.{FrontRead, EndRead};
-ghost use Rattle.apdu_reading.specs.Answers.{Chosen, Answered};
+ghost use Rattle.apdu_reading.specs.Answers.{Chosen, Reads};
 use crate::applications::application_lists;
 use crate::component::id_list;
 use crate::component::integer;
@@ -148,7 +148,7 @@ pub(crate) fn link_end(s: &[u8], f: LinkFront, mandatory: u64, others: u64, c: C
 // Choices 8 and 9.
 pub(crate) fn link(s: &[u8], c: Cursor) -> Reading
     requires { ⌜ (length (now s) ≤ 512) × Chosen (now s) c × (8 ≤ c .value) ⌝ }
-    ensures { λ r. ⌜ Answered (now (s .entry)) r ⌝ }
+    ensures { λ r. ⌜ Reads (now (s .entry)) r ⌝ }
 {
     let f = link_front(s, c);
     application_lists(s, f)

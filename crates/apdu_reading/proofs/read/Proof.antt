@@ -22,7 +22,7 @@ refused-requires : tie.Need-refused-requires Inv-loop μ-loop
 refused-requires c κs = tt
 
 returns : tie.Need-returns Inv-loop μ-loop
-returns c = let a = too-long _ (c .before .if1 .taken) (c .refused .ensures) in (a .outcome, a .tidy, a .sound)
+returns c = too-long _ (c .before .if1 .taken) (c .refused .ensures)
 
 chosen-requires : tie.Need-chosen-requires Inv-loop μ-loop
 chosen-requires c κs = omega (arith, c .if1 .left)
@@ -31,13 +31,13 @@ refused-requires-2 : tie.Need-refused-requires-2 Inv-loop μ-loop
 refused-requires-2 c κs = tt
 
 returns-2 : tie.Need-returns-2 Inv-loop μ-loop
-returns-2 c = let a = choice-refused _ (c .before .before .before .before .if1 .left) _ (c .before .before .before .chosen .ensures) (c .before .if2 .taken) (c .refused2 .ensures) in (a .outcome, a .tidy, a .sound)
+returns-2 c = choice-refused _ (c .before .before .before .before .if1 .left) _ (c .before .before .before .chosen .ensures) (c .before .if2 .taken) (c .refused2 .ensures)
 
 link-requires : tie.Need-link-requires Inv-loop μ-loop
 link-requires c κs = (c .before .before .before .before .before .if1 .left, record { is = c .before .before .before .before .chosen .ensures; clean = c .before .before .if2 .left }, c .if3 .taken)
 
 returns-3 : tie.Need-returns-3 Inv-loop μ-loop
-returns-3 c = let a = c .link .ensures in (a .outcome, a .tidy, a .sound)
+returns-3 c = c .link .ensures
 
 opening-requires : tie.Need-opening-requires Inv-loop μ-loop
 opening-requires c κs = (c .before .before .before .before .before .before .before .if1 .left, record { is = c .before .before .before .before .before .before .chosen .ensures; clean = c .before .before .before .before .if2 .left }, c .before .before .if3 .left)
@@ -88,13 +88,13 @@ refused-requires-3 : tie.Need-refused-requires-3 Inv-loop μ-loop
 refused-requires-3 c κs = tt
 
 returns-4 : tie.Need-returns-4 Inv-loop μ-loop
-returns-4 c = let a = message-refused _ (c .before .before .before .before .before .before .before .before .before .before .before .before .before .before .before .before .before .if1 .left) _ (read-rows (c .before .before .before .before .before .before .before .before .before .opening .ensures) (c .before .before .before .before .before .before .before .before .before .before .no-rows .ensures) (done _ _ _ _ _ (c .before .before .before .before .before .before .before .loop .inv .0) (c .before .before .before .before .before .before .wants .ensures) (c .before .before .before .before .before .before .before .loop .inv .1) (c .before .before .before .before .before .if4 .left)) (c .before .before .before .before .integer-if .ensures)) (c .before .before .before .ended .ensures) (c .before .if6 .taken) (c .refused3 .ensures) in (a .outcome, a .tidy, a .sound)
+returns-4 c = message-refused _ (c .before .before .before .before .before .before .before .before .before .before .before .before .before .before .before .before .before .if1 .left) _ (read-rows (c .before .before .before .before .before .before .before .before .before .opening .ensures) (c .before .before .before .before .before .before .before .before .before .before .no-rows .ensures) (done _ _ _ _ _ (c .before .before .before .before .before .before .before .loop .inv .0) (c .before .before .before .before .before .before .wants .ensures) (c .before .before .before .before .before .before .before .loop .inv .1) (c .before .before .before .before .before .if4 .left)) (c .before .before .before .before .integer-if .ensures)) (c .before .before .before .ended .ensures) (c .before .if6 .taken) (c .refused3 .ensures)
 
 closed-requires : tie.Need-closed-requires Inv-loop μ-loop
 closed-requires c κs = tt
 
 returns-5 : tie.Need-returns-5 Inv-loop μ-loop
-returns-5 c = let a = message-answered _ (c .before .before .before .before .before .before .before .before .before .before .before .before .before .before .before .before .before .if1 .left) _ (read-rows (c .before .before .before .before .before .before .before .before .before .opening .ensures) (c .before .before .before .before .before .before .before .before .before .before .no-rows .ensures) (done _ _ _ _ _ (c .before .before .before .before .before .before .before .loop .inv .0) (c .before .before .before .before .before .before .wants .ensures) (c .before .before .before .before .before .before .before .loop .inv .1) (c .before .before .before .before .before .if4 .left)) (c .before .before .before .before .integer-if .ensures)) (c .before .before .before .ended .ensures) (c .before .if6 .left) (c .closed .ensures) (c .before .before .before .before .before .before .before .loop .inv .2 ∙ c .before .before .before .before .before .before .before .before .before .before .before .no-entries .ensures) in (a .outcome, a .tidy, a .sound)
+returns-5 c = message-answered _ (c .before .before .before .before .before .before .before .before .before .before .before .before .before .before .before .before .before .if1 .left) _ (read-rows (c .before .before .before .before .before .before .before .before .before .opening .ensures) (c .before .before .before .before .before .before .before .before .before .before .no-rows .ensures) (done _ _ _ _ _ (c .before .before .before .before .before .before .before .loop .inv .0) (c .before .before .before .before .before .before .wants .ensures) (c .before .before .before .before .before .before .before .loop .inv .1) (c .before .before .before .before .before .if4 .left)) (c .before .before .before .before .integer-if .ensures)) (c .before .before .before .ended .ensures) (c .before .if6 .left) (c .closed .ensures) (c .before .before .before .before .before .before .before .loop .inv .2 ∙ c .before .before .before .before .before .before .before .before .before .before .before .no-entries .ensures)
 
 pub read-spec : {M : Type 1} → statement M
 read-spec = tie.close (tie.spec Inv-loop μ-loop refused-requires returns chosen-requires refused-requires-2 returns-2 link-requires returns-3 no-entries-requires no-rows-requires opening-requires loop-holds wants-requires next-row-requires mul-row element-set-from-row add-used loop-less loop-again loop-less-2 loop-again-2 integer-if-requires ended-requires refused-requires-3 returns-4 closed-requires returns-5)
