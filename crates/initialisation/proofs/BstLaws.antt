@@ -22,6 +22,7 @@ use Rattle.apdu.specs.declared.records.Bst.{Bst}
 use Rattle.apdu.specs.declared.records.Message.the-variants as kind
 use Rattle.apdu.specs.Values.{bitOf, rowsOf, bstValues, valuesOf}
 use Rattle.apdu.specs.Sound.{soundIf, entriesSound, bstSound, sound, wellFormed}
+use Rattle.apdu.proofs.Formed.{formed-ranges, formed-sound}
 use Rattle.apdu_writing.specs.Quill.{penAt, writes}
 use Rattle.apdu_writing.proofs.Levels.{writes-append, writes-dead, writes-fine, writes-wrong}
 
@@ -36,19 +37,15 @@ passes i js room v rest b h =
     ∙ h))
 
 module _ (s : List ℕ) (m : Bst) (es : List Entry) (rs : List Row) (formed : wellFormed s (kind.Bst m) es rs ≡ true) where
-  ranges : inRange (valuesOf s (kind.Bst m) es rs) ≡ true
-  unfolding wellFormed
-  ranges = both (inRange (valuesOf s (kind.Bst m) es rs)) (sound (length s) (kind.Bst m) es rs) formed .0
-
   -- the list of profiles lies in the lent octets
   pub profiles-inside : isInside (length s) (m .profiles) (m .«profile_count») ≡ true
-  unfolding wellFormed sound bstSound
+  unfolding sound bstSound
   profiles-inside =
       let first = take (m .mandatory) es in
       let a = entriesSound (length s) first (take (rowsOf first) rs) in
       let b = soundIf (m .«has_others») (entriesSound (length s) (take (m .others) (drop (m .mandatory) es)) (drop (rowsOf first) rs)) in
       let c = isInside (length s) (m .profiles) (m .«profile_count») in
-      both b c (both a (b && c) (both (inRange (valuesOf s (kind.Bst m) es rs)) (sound (length s) (kind.Bst m) es rs) formed .1) .1) .1
+      both b c (both a (b && c) (formed-sound s (kind.Bst m) es rs formed) .1) .1
 
 -- a time in range, out of a message whose leading part and time come first
 timed : (lead-value : List ℕ) (time : ℕ) (rest : List Value) → writes (choice ∷ []) (penAt (fields (8 ∷ []) ∷ fields lead-value ∷ fields (time ∷ []) ∷ rest) 32 []) .ok ≡ true
@@ -73,4 +70,4 @@ pub time-fits : (s : List ℕ) (m : Bst) (es : List Entry) (rs : List Row) → w
 unfolding inRange written writes valuesOf bstValues
 time-fits s m es rs formed =
     let vs = valuesOf s (kind.Bst m) es rs in
-    in-time (m .time) (timed (bitOf (m .«has_others») ∷ m .manufacturer ∷ m .individual ∷ []) (m .time) _ (both (written vs .ok) (none (written vs .left)) (ranges s m es rs formed) .0))
+    in-time (m .time) (timed (bitOf (m .«has_others») ∷ m .manufacturer ∷ m .individual ∷ []) (m .time) _ (both (written vs .ok) (none (written vs .left)) (formed-ranges s (kind.Bst m) es rs formed) .0))

@@ -16,7 +16,7 @@ use Rattle.apdu_format.specs.Writing.{fieldBits, fieldsFit, bitsOf, areBits, fi
 use Rattle.apdu.specs.declared.lists.Entry.{Entry}
 use Rattle.apdu.specs.declared.records.Bst.{Bst}
 use Rattle.apdu.specs.Values.{headValues, rowsValues, entryValues, entriesValues, entryRows, rowsOf, idsAt, bstValues, vstValues, valuesOf}
-use Rattle.apdu.specs.Sound.{entrySound, entriesSound, bstSound, sound, wellFormed}
+use Rattle.apdu.specs.Sound.{entrySound, entriesSound, bstSound, sound, rowsPresent, rowsFit, wellFormed}
 use Rattle.initialisation.specs.declared.records.Beacon.{Beacon}
 use Rattle.initialisation.specs.declared.records.Phase.{Phase}
 use Rattle.initialisation.specs.declared.records.Phase.the-variants.{Sleeping, Looking, Ready}
@@ -108,7 +108,7 @@ cases =
     ∷ []
 
 pub heard-so : map told cases ≡ map expected cases
-unfolding heardOf hearingRefusal firstOf elementsSound eachSound elementSound noneHas isInside recordsInRange wellFormed inRange written puts through put putFirst putValue isValue fits fieldsFit areBits shape checksOf numbersOf brings present layoutOf announced times content none valuesOf bstValues vstValues headValues rowsValues entriesValues entryValues entryRows rowsOf idsAt sound bstSound entriesSound entrySound configurationInRange sentFor profileOf firstServed stringAt offeredBy pairOf elementOf elapsed vstFor encode encodedOctets size octets number bitsOf fieldBits digits bits
+unfolding heardOf hearingRefusal firstOf elementsSound eachSound elementSound noneHas isInside recordsInRange wellFormed inRange written puts through put putFirst putValue isValue fits fieldsFit areBits shape checksOf numbersOf brings present layoutOf announced times content none valuesOf bstValues vstValues headValues rowsValues entriesValues entryValues entryRows rowsOf idsAt sound rowsPresent rowsFit bstSound entriesSound entrySound configurationInRange sentFor profileOf firstServed stringAt offeredBy pairOf elementOf elapsed vstFor encode encodedOctets size octets number bitsOf fieldBits digits bits
 heard-so = refl
 
 -- 99 and 100 ticks, and a tick before the last

@@ -28,7 +28,7 @@ use Rattle.apdu.specs.declared.records.Message.{Message}
 use Rattle.apdu.specs.declared.records.Vst.{Vst}
 use Rattle.apdu.specs.declared.records.Message.the-variants as kind
 use Rattle.apdu.specs.Values.{bitOf, num, if, headValues, rowsValues, entryValues, entriesValues, entryRows, rowsOf, vstValues, valuesOf, emptyEntry}
-use Rattle.apdu.specs.Sound.{soundIf, partFits, partsFit, closes, rowsSound, containerSound, entrySound, entriesSound, vstSound, sound, wellFormed}
+use Rattle.apdu.specs.Sound.{soundIf, partFits, partsFit, closes, rowsSound, containerSound, entrySound, entriesSound, vstSound, sound, rowsPresent, rowsFit, wellFormed}
 use Rattle.apdu_writing.specs.declared.writing.ApduWritten.{ApduWritten}
 use Rattle.apdu_writing.specs.declared.writing.ApduWritten.the-variants as written
 use Rattle.apdu_writing.specs.Answer.{answerOf, writeRefusal, answered, writeAnswer, writeOutput}
@@ -258,11 +258,15 @@ module _ (marks : List ℕ) (t : Taken) (k : Configuration) (can : Sendable mark
         marked true h = rw h
         marked false h = refl
 
+    vst-fit : rowsFit message (entryOf e ∷ es) ≡ true
+    unfolding rowsFit rowsPresent rowsOf
+    vst-fit = rw (no-rows (t .element))
+
     pub vst-passes : (n : ℕ) → 512 ≤ n → writeRefusal (markOf e marks) message (entryOf e ∷ es) rs n ≡ 0
     unfolding writeRefusal firstOf wellFormed
     vst-passes n h =
         let l = vst-short in
-        rw (vst-values, in-range vst-written, vst-sound, le-ltb 512 (size (vstFor t marks k)) l, le-ltb n (size (vstFor t marks k)) (omega arith))
+        rw (vst-values, in-range vst-written, vst-sound, vst-fit, le-ltb 512 (size (vstFor t marks k)) l, le-ltb n (size (vstFor t marks k)) (omega arith))
 
 -- ---- what writing it gives
 
