@@ -23,13 +23,13 @@ pub count-le : (p : Bool) (n : ℕ) → countIf p n ≤ n
 count-le p n = by-test (λ (k : ℕ). k ≤ n) p (λ h. omega arith) (λ h. omega arith)
 
 module _ (m : Message) (es : List Entry) where
-  pub rows-fit : rowsPresent m es ≤ mostRows → rowsFit m es ≡ true
+  pub keeps-limit : rowsPresent m es ≤ mostRows → rowsFit m es ≡ true
   unfolding rowsFit
-  rows-fit h = le-leb (rowsPresent m es) mostRows h
+  keeps-limit h = le-leb (rowsPresent m es) mostRows h
 
-  pub fit-rows : rowsFit m es ≡ true → rowsPresent m es ≤ mostRows
+  pub limit-kept : rowsFit m es ≡ true → rowsPresent m es ≤ mostRows
   unfolding rowsFit
-  fit-rows h = leb-true (rowsPresent m es) mostRows h
+  limit-kept h = leb-true (rowsPresent m es) mostRows h
 
 -- ---- the whole condition
 
@@ -51,4 +51,4 @@ module _ (s : List ℕ) (m : Message) (es : List Entry) (rs : List Row) where
     formed-sound = both (sound (length s) m es rs) (rowsFit m es) sound-and-fit .0
 
     pub formed-rows : rowsPresent m es ≤ mostRows
-    formed-rows = fit-rows m es (both (sound (length s) m es rs) (rowsFit m es) sound-and-fit .1)
+    formed-rows = limit-kept m es (both (sound (length s) m es rs) (rowsFit m es) sound-and-fit .1)

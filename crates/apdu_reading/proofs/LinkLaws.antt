@@ -22,7 +22,7 @@ use Rattle.apdu.specs.Values.{bitOf, num, idList, rowsOf, bstValues, vstValues,
 use Rattle.apdu.specs.Tidy.{messageTidy}
 use Rattle.apdu.specs.Sound.{bstSound, vstSound, sound, rowsPresent}
 use Rattle.apdu.proofs.Laws.{sound-if, own-sound}
-use Rattle.apdu.proofs.Formed.{count-le, rows-fit}
+use Rattle.apdu.proofs.Formed.{count-le, keeps-limit}
 use Rattle.apdu_reading.specs.declared.cursor.Cursor.{Cursor}
 use Rattle.apdu_reading.specs.declared.link.Configuration.{Configuration}
 use Rattle.apdu_reading.specs.declared.link.LinkFront.{LinkFront}
@@ -213,7 +213,7 @@ module _ (s : List ℕ) (f : LinkFront) (opened : FrontRead s f) (m o : ℕ) (c 
               reads = opened .bst e (w .reads (then (r .0) (nothing s (itself ids))));
               tidy = λ g. (record { are = λ v. (w .absent v, tt) }, w .tidy (clean (r .0) g));
               sound = λ g. let h = clean (r .0) g in and-true (w .first h) (and-true (sound-if (f .«has_others») (w .second h)) (r .3 .so g));
-              few = rows-fit _ _ (let k = count-le (f .«has_others») (rowsOf (take o (drop m (l .entries)))) in let u = w .few in omega arith);
+              few = keeps-limit _ _ (let k = count-le (f .«has_others») (rowsOf (take o (drop m (l .entries)))) in let u = w .few in omega arith);
               rows = w .rows;
               entries = w .entries;
             };
@@ -245,7 +245,7 @@ module _ (s : List ℕ) (f : LinkFront) (opened : FrontRead s f) (m o : ℕ) (c 
               reads = opened .vst n (rw x at (w .reads (then (q .reads) (nothing s (itself (d .cursor))))));
               tidy = λ g. (q .absent, rw z at (w .tidy (clean (q .reads) g)));
               sound = λ g. own-sound (length s) (take m (l .entries)) (l .rows) ∙ w .first (clean (q .reads) g);
-              few = rows-fit _ _ (let u = w .few in omega arith);
+              few = keeps-limit _ _ (let u = w .few in omega arith);
               rows = w .rows;
               entries = w .entries;
             };

@@ -27,7 +27,7 @@ use Rattle.apdu.specs.Values.{bitOf, num-if, if, str, idList, requestValues, ac
 use Rattle.apdu.specs.Tidy.{Absent, RowsTidy, requestTidy, actionResponseTidy, responseTidy, setRequestTidy, getRequestTidy, getResponseTidy, messageTidy}
 use Rattle.apdu.specs.Sound.{nested, requestSound, actionResponseSound, setRequestSound, getRequestSound, getResponseSound, sound, countIf, rowsPresent}
 use Rattle.apdu.proofs.Laws.{sound-if}
-use Rattle.apdu.proofs.Formed.{count-le, rows-fit}
+use Rattle.apdu.proofs.Formed.{count-le, keeps-limit}
 use Rattle.apdu.proofs.Dues.{two, one}
 use Rattle.apdu_reading.specs.declared.cursor.Cursor.{Cursor}
 use Rattle.apdu_reading.specs.declared.container.Head.{Head}
@@ -135,7 +135,7 @@ module _ (s : List ℕ) (c : Cursor) (h : Chosen s c) where
         reads = rw v (chosen s c h k e (p .reads));
         tidy = λ z. t (p .fine z);
         sound = λ z. w ∙ p .right z;
-        few = rows-fit m (replicate 32 emptyEntry) few;
+        few = keeps-limit m (replicate 32 emptyEntry) few;
         rows = long;
         entries = refl;
       }

@@ -21,7 +21,7 @@ use Rattle.apdu_format.specs.Reading.{Value}
 use Rattle.apdu_format.specs.Writing.{Pen}
 use Rattle.apdu_format.proofs.Tests.{never, both}
 use Rattle.apdu_writing.specs.declared.quill.Quill.{Quill}
-use Rattle.apdu_writing.specs.Quill.{quill, far, least, halted, limited, penAt, writes, Goes, Stops, Moves, Puts}
+use Rattle.apdu_writing.specs.Quill.{far, least, halted, limited, penAt, writes, Goes, Stops, Moves, Puts}
 use Rattle.apdu_writing.proofs.Levels.{writes-append, writes-dead}
 
 -- ---- places

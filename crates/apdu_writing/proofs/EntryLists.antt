@@ -8,11 +8,10 @@ use native.Mathlib.Omega.{arith}
 use native.Mathlib.Numerals.{add-one}
 use lib.ListN.{length, take, drop, getD, length-drop}
 use lib.Seq.{take-suc, take-all, drop-drop, length-take-le, getD-take, getD-drop}
-use lib.Dec.{ltb, leb}
+use lib.Dec.{ltb}
 use borrow.Author.Tests.{ltb-true, not-true, not-false}
 use Rattle.refusals.specs.Check.{firstOf}
 use Rattle.bits.specs.Bits.{writeField}
-use Rattle.apdu_format.specs.Limits.{mostRows}
 use Rattle.apdu_format.specs.Component.{integer, entry, entryCount, container}
 use Rattle.apdu_format.specs.Rules.{shape, checksOf, brings, announced, when, times, isSet}
 use Rattle.apdu_format.specs.Reading.{fields, numbersOf, sum}

@@ -22,7 +22,7 @@ use Rattle.apdu_format.proofs.Tests.{both, never}
 use Rattle.apdu.specs.declared.records.GetRequest.{GetRequest}
 use Rattle.apdu.specs.Values.{num, headValues, rowValues, rowsValues, getResponseValues, valuesOf}
 use Rattle.apdu.specs.RowCounters.{row}
-use Rattle.apdu.specs.Sound.{closes, rowsSound, getResponseSound, sound, wellFormed}
+use Rattle.apdu.specs.Sound.{closes, rowsSound, getResponseSound, sound, rowsPresent, rowsFit, wellFormed}
 use Rattle.directory.specs.declared.Row.{Row}
 use Rattle.directory.specs.Directory.{areaOctets, rowSound, soundDirectory, rowOf}
 use Rattle.directory.proofs.Looking.{sound-row, row-short}
@@ -107,11 +107,11 @@ module _ (tag : Tag) (s : List ℕ) (m : GetRequest) (fine : soundDirectory (len
       joined c r
 
   values-formed : wellFormed lent (getReply tag s m .message) noEntries (attributesAt 0 named) ≡ true
-  unfolding getReply wellFormed valuesOf getResponseValues sound getResponseSound rowsSound
+  unfolding getReply wellFormed valuesOf getResponseValues sound getResponseSound rowsSound rowsFit rowsPresent
   values-formed =
       let f = finished (joined (begun g (rowCount 1 ∷ []) (num (m .count) ∷ (rowsValues lent (attributesAt 0 named) ++ [])) 7 (1 ∷ 0 ∷ 0 ∷ []) (values-leads (m .«has_iid»))) list-written) in
       let c : closes (m .count) (attributesAt 0 named) ≡ true = ap (λ (n : ℕ). closes n (attributesAt 0 named)) (sym (count-rows (tag .directory) ids ∙ count-is)) ∙ rows-close 0 named in
-      rw all-places (and-true (f .0) (and-true (rows-fit (length lent) 0 named within-lent) c))
+      rw all-places (and-true (f .0) (and-true (and-true (rows-fit (length lent) 0 named within-lent) c) (le-leb (m .count) 32 (omega arith))))
 
   -- it is sent, unless it is too long
   pub values-sent : (w out : List ℕ) → leastOutput ≤ length out → tooLong (sent (getReply tag s m) w out .outcome) ≡ false

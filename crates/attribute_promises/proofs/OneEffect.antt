@@ -28,8 +28,8 @@ use Rattle.attributes.specs.declared.answers.RequestOutcome.{RequestOutcome}
 use Rattle.attributes.specs.declared.answers.RequestOutcome.the-variants as outcome
 use Rattle.attributes.specs.declared.answers.RequestAnswer.{RequestAnswer}
 use Rattle.attributes.specs.Serving as serving
-use Rattle.attributes.specs.Serving.{Attribute, Tag, Effect, served, getting, setting, carried, byReading, requested, toldOf, Answered}
-use Rattle.attribute_promises.specs.Promises.{Reads, OneEffect, Determined}
+use Rattle.attributes.specs.Serving.{Attribute, Tag, Effect, served, getting, setting, carried, byReading, requested, toldOf}
+use Rattle.attribute_promises.specs.Promises.{OneEffect, Determined}
 use Rattle.attribute_promises.proofs.SameService.{none, get-one, set-fields, set-one, echo-fields, echo-one}
 
 -- ---- any message
@@ -176,8 +176,7 @@ answer-same a b h =
 pub determined : Determined
 unfolding Determined OneEffect
 determined tag s out a b w w' o o' x y =
-    let reads : (d : RequestAnswer) (v p : List ℕ) (z : Answered tag s out d v p) → Reads s (z .reading) = λ d v p z. record { outcome = z .read; tidy = z .tidy; sound = z .sound } in
-    let e = x .is ∙ one-effect tag s out (x .reading) (y .reading) (reads a w o x) (reads b w' o' y) ∙ sym (y .is) in (
+    let e = x .is ∙ one-effect tag s out (x .reading) (y .reading) (x .reads) (y .reads) ∙ sym (y .is) in (
       answer-same a b (ap (λ (z : Effect). z .outcome) e),
       ap (λ (z : Effect). z .writable) e,
       ap (λ (z : Effect). z .output) e,

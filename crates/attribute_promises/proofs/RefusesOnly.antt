@@ -24,13 +24,13 @@ use Rattle.apdu.specs.Sound.{sound}
 use Rattle.apdu_reading.specs.declared.front.Answer.{Answer}
 use Rattle.apdu_reading.specs.declared.front.Answer.the-variants as answer
 use Rattle.apdu_reading.specs.declared.front.Reading.{Reading}
-use Rattle.apdu_reading.specs.Answers.{told, outcomeOf, soundBy}
+use Rattle.apdu_reading.specs.Answers.{told, outcomeOf, soundBy, Reads}
 use Rattle.apdu_reading.proofs.Encoded.{record-encodes}
 use Rattle.directory.specs.declared.Row.{Row}
 use Rattle.directory.specs.Directory.{soundDirectory}
 use Rattle.attributes.specs.Serving.{leastOutput, Attribute, Tag, Reply, Effect, sent, tooLong, getFault, getFaults, getStatus, getReply, getting, setFault, setFaults, setStatus, setting, served, carried, byReading, requested}
 use Rattle.attributes.proofs.Ranges.{read-fits, fits-get}
-use Rattle.attribute_promises.specs.Promises.{Reads, none, refusalIn, firstRefusal, unreadable, unserved, RefusesOnly}
+use Rattle.attribute_promises.specs.Promises.{none, refusalIn, firstRefusal, unreadable, unserved, RefusesOnly}
 use Rattle.attribute_promises.proofs.Repeated.{Repeats, set-repeats, get-repeats, echoes}
 use Rattle.attribute_promises.proofs.Replies.{Fine, sent-fine, set-fine, get-fine, echo-fine}
 use Rattle.attribute_promises.proofs.GetValues.{values-sent}
@@ -100,7 +100,7 @@ module _ (tag : Tag) (s out : List ℕ) (room : leastOutput ≤ length out) wher
       carried-answers (kind.SetRequest m) e h = set-answers m (r .lists .rows) (set-repeats s m (r .lists .entries) (r .lists .rows) (in-range (kind.SetRequest m) e))
       carried-answers (kind.SetResponse m) e h = never h
       carried-answers (kind.GetRequest m) e h =
-          get-answers m (fits-get (read-fits s r (reads .outcome, reads .tidy, reads .sound) e) refl .few)
+          get-answers m (fits-get (read-fits s r reads e) refl .few)
           (get-repeats s m (r .lists .entries) (r .lists .rows) (in-range (kind.GetRequest m) e))
       carried-answers (kind.GetResponse m) e h = never h
       carried-answers (kind.Bst m) e h = never h

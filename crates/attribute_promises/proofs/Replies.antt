@@ -20,7 +20,7 @@ use Rattle.apdu.specs.declared.records.Request.{Request}
 use Rattle.apdu.specs.declared.records.SetRequest.{SetRequest}
 use Rattle.apdu.specs.declared.records.GetRequest.{GetRequest}
 use Rattle.apdu.specs.Values.{bitOf, num, num-if, headValues, rowsValues, actionResponseValues, responseValues, getResponseValues, valuesOf}
-use Rattle.apdu.specs.Sound.{partFits, partsFit, closes, rowsSound, containerSound, actionResponseSound, getResponseSound, sound, wellFormed}
+use Rattle.apdu.specs.Sound.{partFits, partsFit, closes, rowsSound, containerSound, actionResponseSound, getResponseSound, sound, rowsPresent, rowsFit, wellFormed}
 use Rattle.apdu_writing.specs.Answer.{writeRefusal, answered, writeAnswer}
 use Rattle.attributes.specs.Serving.{writes as outcomeBy}
 use Rattle.attributes.specs.Serving.{leastOutput, Reply, refusedAt, replied, noEntries, sent, getRefusal, setReply, echoReply}
@@ -89,13 +89,13 @@ get-leads true = record { chosen = refl; led = refl; body = refl; half = omega a
 get-leads false = record { chosen = refl; led = refl; body = refl; half = omega arith }
 
 pub set-fine : (s : List ℕ) (m : SetRequest) (status : ℕ) → Repeats (m .eid) (m .«has_iid») (m .iid) → status < 128 → Fine (setReply s m status)
-unfolding setReply wellFormed valuesOf responseValues sound
+unfolding setReply wellFormed valuesOf responseValues sound rowsFit rowsPresent
 set-fine s m status g h =
     let f = finished (joined (begun g (integer ∷ []) (num status ∷ []) 5 (1 ∷ 0 ∷ []) (set-leads (m .«has_iid»))) (number status [] [] 32 h)) in
     record { formed = and-true (f .0) refl; short = omega (arith, f .1) }
 
 pub get-fine : (s : List ℕ) (m : GetRequest) (status : ℕ) → Repeats (m .eid) (m .«has_iid») (m .iid) → status < 128 → Fine (getRefusal s m status)
-unfolding getRefusal wellFormed valuesOf getResponseValues sound getResponseSound
+unfolding getRefusal wellFormed valuesOf getResponseValues sound getResponseSound rowsFit rowsPresent
 get-fine s m status g h =
     let f = finished (joined (begun g (integer ∷ []) (num status ∷ []) 7 (0 ∷ 1 ∷ 0 ∷ []) (get-leads (m .«has_iid»))) (number status [] [] 32 h)) in
     record { formed = and-true (f .0) refl; short = omega (arith, f .1) }
@@ -108,10 +108,10 @@ echo-leads true = record { chosen = refl; led = refl; body = refl; half = omega 
 echo-leads false = record { chosen = refl; led = refl; body = refl; half = omega arith }
 
 pub echo-fine : (s : List ℕ) (m : Request) → Echoes s m → Fine (echoReply s m)
-unfolding echoReply wellFormed valuesOf actionResponseValues headValues rowsValues sound actionResponseSound containerSound partFits rowsSound partsFit closes
+unfolding echoReply wellFormed valuesOf actionResponseValues headValues rowsValues sound actionResponseSound containerSound partFits rowsSound partsFit closes rowsFit rowsPresent
 echo-fine s m x =
     let e = x .string in
     let f =
     finished (joined (begun (x .repeats) (container 1 ∷ []) (headValues s 2 (m .n) (m .start) ++ []) 1 (1 ∷ 0 ∷ 0 ∷ []) (echo-leads (m .«has_iid»)))
     (box-written s (m .start) (m .n) (x .inside) (x .short) [] [] 32)) in
-    record { formed = rw e (and-true (f .0) (and-true (x .inside) refl)); short = rw e (omega (arith, f .1, x .short)) }
+    record { formed = rw e (and-true (f .0) (and-true (and-true (x .inside) refl) refl)); short = rw e (omega (arith, f .1, x .short)) }

@@ -20,7 +20,7 @@ use Rattle.apdu.specs.declared.records.Message.the-variants as kind
 use Rattle.apdu_reading.specs.declared.front.Answer.{Answer}
 use Rattle.apdu_reading.specs.declared.front.Answer.the-variants as answer
 use Rattle.apdu_reading.specs.declared.front.Reading.{Reading}
-use Rattle.apdu_reading.specs.Answers.{outcomeOf, Tidy, SoundRecord}
+use Rattle.apdu_reading.specs.Answers.{outcomeOf, SoundRecord, Reads}
 use Rattle.apdu.specs.declared.records.SetRequest.{SetRequest}
 use Rattle.apdu.specs.declared.records.GetRequest.{GetRequest}
 use Rattle.bits.specs.Strings.{stringAt}
@@ -137,12 +137,6 @@ unfoldable pub RefusalKeeps : Type 0
 RefusalKeeps = (tag : Tag) (s : List ℕ) (r : Reading) (out : List ℕ) → outcomeOf s r ≡ readMessage s → Unchanged tag out (requested tag s r out)
 
 -- ---- one effect for each request
-
--- r meets the contract of `read` for the octets s
-pub record Reads (s : List ℕ) (r : Reading) : Type 0 where
-  pub outcome : outcomeOf s r ≡ readMessage s
-  pub tidy : Tidy r
-  pub sound : SoundRecord s r
 
 -- whichever record reading makes of s, the effect is the same
 unfoldable pub OneEffect : Type 0

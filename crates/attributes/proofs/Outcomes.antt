@@ -14,10 +14,9 @@ use Rattle.apdu.specs.declared.records.SetRequest.{SetRequest}
 use Rattle.apdu.specs.declared.records.Request.{Request}
 use Rattle.apdu.specs.declared.records.Message.{Message}
 use Rattle.apdu.specs.declared.records.Message.the-variants as kind
-use Rattle.apdu_format.specs.Reading.{readMessage}
 use Rattle.apdu_reading.specs.declared.front.Answer.the-variants as answer
 use Rattle.apdu_reading.specs.declared.front.Reading.{Reading}
-use Rattle.apdu_reading.specs.Answers.{outcomeOf, Tidy, SoundRecord}
+use Rattle.apdu_reading.specs.Answers.{Reads}
 use Rattle.directory.specs.declared.Row.{Row}
 use Rattle.directory.specs.Directory.{soundDirectory}
 use Rattle.directory.specs.Gathered.{gathered, listOf}
@@ -139,9 +138,9 @@ module _ (eid : ℕ) (credentials : List ℕ) (rows : List Row) (f w s : List �
 
 -- ---- the call
 
-module _ (tag : Tag) (s out : List ℕ) (r : Reading) (h : (outcomeOf s r ≡ readMessage s) × Tidy r × SoundRecord s r) where
+module _ (tag : Tag) (s out : List ℕ) (r : Reading) (h : Reads s r) where
   answered : (a : RequestAnswer) {w out' : List ℕ} → effect (toldOf (a .outcome)) w out' ≡ requested tag s r out → Answered tag s out a w out'
-  answered a e = record { reading = r; read = h .0; tidy = h .1; sound = h .2; is = e }
+  answered a e = record { reading = r; reads = h; is = e }
 
   pub answered-1 : length out < 512 → Answered tag s out (record { outcome = told.Refused 1 }) (tag .writable) out
   unfolding requested firstOf toldOf
@@ -192,8 +191,6 @@ pub gathered-answered : (eid : ℕ) (credentials : List ℕ) (rows : List Row) (
 gathered-answered eid credentials rows f w s out a w' out' h =
     record {
       reading = h .reading;
-      read = h .read;
-      tidy = h .tidy;
-      sound = h .sound;
+      reads = h .reads;
       is = h .is ∙ gathered-requested eid credentials rows f w s out (h .reading);
     }

@@ -15,7 +15,7 @@ use Rattle.bits.proofs.Strings.{inside-le}
 use Rattle.apdu_format.specs.Component.{Component, choice, lead, integer, stringForm, stringLength, stringOctets, idCount, rowCount}
 use Rattle.apdu_format.specs.Table.{layoutOf}
 use Rattle.apdu_format.specs.Rules.{shape, checksOf, present, brings, announced}
-use Rattle.apdu_format.specs.Reading.{Value, fields, numbersOf, readMessage}
+use Rattle.apdu_format.specs.Reading.{Value, fields, numbersOf}
 use Rattle.apdu_format.specs.Writing.{Pen, bitsOf, fits, isValue, written, inRange}
 use Rattle.apdu_format.proofs.Tests.{both, never}
 use Rattle.apdu_format.proofs.Messages.{in-range}
@@ -29,7 +29,7 @@ use Rattle.apdu.specs.Tidy.{Absent, messageTidy}
 use Rattle.apdu.specs.Sound.{soundIf, getRequestSound, sound}
 use Rattle.apdu_reading.specs.declared.front.Answer.the-variants as answer
 use Rattle.apdu_reading.specs.declared.front.Reading.{Reading}
-use Rattle.apdu_reading.specs.Answers.{outcomeOf, tidyBy, Tidy, soundBy, SoundRecord}
+use Rattle.apdu_reading.specs.Answers.{tidyBy, soundBy, Reads}
 use Rattle.apdu_reading.proofs.Encoded.{record-encodes}
 use Rattle.apdu_writing.specs.Quill.{penAt, writes}
 use Rattle.apdu_writing.proofs.Levels.{writes-append, writes-dead, writes-fine, writes-wrong}
@@ -159,12 +159,12 @@ module _ (s : List ℕ) (short : length s ≤ 512) where
   fits-of (kind.Bst m) es rs h t k = tt
   fits-of (kind.Vst m) es rs h t k = tt
 
-pub read-fits : (s : List ℕ) (r : Reading) → (outcomeOf s r ≡ readMessage s) × Tidy r × SoundRecord s r → {m : Message} → r .answer ≡ answer.Message m → Fits m
+pub read-fits : (s : List ℕ) (r : Reading) → Reads s r → {m : Message} → r .answer ≡ answer.Message m → Fits m
 unfolding tidyBy soundBy
 read-fits s r h {m} e =
-    let x = record-encodes s r (h .0) m e in
-    let t : messageTidy m (r .lists .entries) (r .lists .rows) = rw e at (h .1 .is) in
-    let k : sound (length s) m (r .lists .entries) (r .lists .rows) ≡ true = rw e at (h .2 .is) in
+    let x = record-encodes s r (h .outcome) m e in
+    let t : messageTidy m (r .lists .entries) (r .lists .rows) = rw e at (h .tidy .is) in
+    let k : sound (length s) m (r .lists .entries) (r .lists .rows) ≡ true = rw e at (h .sound .is) in
     record { is = fits-of s (x .short) m (r .lists .entries) (r .lists .rows) (x .ranges) t k }
 
 pub fits-set : {m : Message} {x : SetRequest} → Fits m → m ≡ kind.SetRequest x → SetFits x

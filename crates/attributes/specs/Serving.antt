@@ -12,7 +12,6 @@ use Rattle.refusals.specs.Check.{pick, Check, check, firstOf}
 use Rattle.bits.specs.Bits.{field}
 use Rattle.bits.specs.Strings.{sameString, copyString}
 use Rattle.apdu_format.specs.Component.{octetString}
-use Rattle.apdu_format.specs.Reading.{readMessage}
 use Rattle.apdu.specs.declared.lists.Row as attribute
 use Rattle.apdu.specs.declared.lists.Entry.{Entry}
 use Rattle.apdu.specs.declared.records.Request.{Request}
@@ -24,7 +23,7 @@ use Rattle.apdu.specs.Values.{emptyRow, emptyEntry}
 use Rattle.apdu_reading.specs.declared.front.Answer.{Answer}
 use Rattle.apdu_reading.specs.declared.front.Answer.the-variants as answer
 use Rattle.apdu_reading.specs.declared.front.Reading.{Reading}
-use Rattle.apdu_reading.specs.Answers.{outcomeOf, Tidy, SoundRecord}
+use Rattle.apdu_reading.specs.Answers.{Reads}
 use Rattle.apdu_writing.specs.Answer as writing
 use Rattle.apdu_writing.specs.Answer.{writeAnswer, writeOutput}
 use Rattle.directory.specs.declared.Row.{Row}
@@ -315,7 +314,5 @@ toldOf (told.Reply n) = replied n
 -- that meets reading's contract gives the same ones (OneEffect and Determined in attribute_promises)
 pub record Answered (tag : Tag) (s out : List ℕ) (r : RequestAnswer) (w out' : List ℕ) : Type 0 where
   pub reading : Reading
-  pub read : outcomeOf s reading ≡ readMessage s
-  pub tidy : Tidy reading
-  pub sound : SoundRecord s reading
+  pub reads : Reads s reading
   pub is : effect (toldOf (r .outcome)) w out' ≡ requested tag s reading out
