@@ -8,14 +8,13 @@ use lib.ListN.{length}
 use borrow.Author.Tests.{not-true, not-false}
 use Rattle.refusals.specs.Check.{firstOf, refused, accepted, decided}
 use Rattle.apdu_format.specs.Reading.{Value}
-use Rattle.apdu_format.specs.Writing.{inRange}
-use Rattle.apdu_format.proofs.Tests.{both}
 use Rattle.apdu.specs.declared.lists.Row.{Row}
 use Rattle.apdu.specs.declared.lists.Entry.{Entry}
 use Rattle.apdu.specs.declared.records.Message.{Message}
 use Rattle.apdu.specs.Values.{valuesOf}
 use Rattle.apdu.specs.Sound.{sound, wellFormed}
 use Rattle.apdu.proofs.Laws.{and-unit}
+use Rattle.apdu.proofs.Formed.{formed-sound}
 use Rattle.apdu_same.specs.Comparison.{sameMessage, sameAnswer}
 use Rattle.apdu_same.specs.Walk.{Agree, Compares}
 
@@ -35,11 +34,8 @@ module _ (s : List ℕ) (a : Message) (es : List Entry) (vs : List Row) (t : Lis
       unfolding sameAnswer firstOf decided
       compared {r} k c =
           rw (← e, not-false p h, ← f, not-false q k)
-          (ap accepted (sym (alone (valuesOf s a es vs) (valuesOf t b fs ws) (c .so (sound-of s a es vs (sym e ∙ not-false p h)) (sound-of t b fs ws (sym f ∙ not-false q k))))))
+          (ap accepted (sym (alone (valuesOf s a es vs) (valuesOf t b fs ws) (c .so (formed-sound s a es vs (sym e ∙ not-false p h)) (formed-sound t b fs ws (sym f ∙ not-false q k))))))
         where
-          sound-of : (s : List ℕ) (m : Message) (es : List Entry) (vs : List Row) → wellFormed s m es vs ≡ true → sound (length s) m es vs ≡ true
-          sound-of s m es vs z = unfold wellFormed in both (inRange (valuesOf s m es vs)) (sound (length s) m es vs) z .1
-
           alone : (us vs : List Value) → Agree us vs r → sameMessage us vs ≡ r
           alone us vs x =
               ap (λ (l : List Value). sameMessage l vs) (sym (append-nil us)) ∙ ap (sameMessage (us ++ [])) (sym (append-nil vs)) ∙ x .so [] []

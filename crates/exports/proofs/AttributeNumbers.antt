@@ -105,7 +105,7 @@ unpacking-request tag s out r w out' g =
     let a = g .answered in
     let o = toldOf (g .call .outcome) in
     let is : o ≡ requested tag s (a .reading) out .outcome = ap (λ (x : Effect). x .outcome) (a .is) in
-    let known = subst Known (sym is) (requested-known tag s out (a .reading) (a .read)) in
+    let known = subst Known (sym is) (requested-known tag s out (a .reading) (a .reads .outcome)) in
     subst (λ (k : ℕ). OutcomeSays k o) (sym (g .is)) (outcome-says o known (λ n e. requested-short tag s out (a .reading) n (sym is ∙ e)))
 
 -- ---- lookup

@@ -3,12 +3,11 @@ use Prim.Native.Nat.{ℕ}
 use mathlib.Core.Path.{_≡_, ap, _∙_}
 use mathlib.Core.List.{List}
 use Rattle.refusals.specs.Check.{Answer}
-use Rattle.apdu_format.specs.Reading.{readMessage}
 use Rattle.apdu.specs.declared.records.Bst.{Bst}
 use Rattle.apdu.specs.declared.records.Message.{Message}
 use Rattle.apdu_reading.specs.declared.front.Answer.the-variants as answer
 use Rattle.apdu_reading.specs.declared.front.Reading.{Reading}
-use Rattle.apdu_reading.specs.Answers.{outcomeOf, Tidy, SoundRecord}
+use Rattle.apdu_reading.specs.Answers.{Reads}
 use Rattle.initialisation.specs.declared.records.Link.{Link}
 use Rattle.initialisation.specs.declared.records.BstResult.{BstResult}
 use Rattle.initialisation.specs.Link.{Changed}
@@ -41,9 +40,9 @@ heard-is words c {result = result} g e =
     let o = g .output-is in
     cc
 
-module _ (b : Brought) (s : List ℕ) (g : Reading) (e : (outcomeOf s g ≡ readMessage s) × Tidy g × SoundRecord s g) where
+module _ (b : Brought) (s : List ℕ) (g : Reading) (e : Reads s g) where
   by-reading : {r : ℕ} {words' out' : List ℕ} → effect r words' out' ≡ readEffect b s (g .lists) (g .answer) → BstEffect b s r words' out'
-  by-reading i = record { reading = g; read = e .0; tidy = e .1; sound = e .2; is = i }
+  by-reading i = record { reading = g; reads = e; is = i }
 
   pub bst-refused : (k p : ℕ) {r : ℕ} → g .answer ≡ answer.Refused k p → r ≡ refusalAt k p → BstEffect b s r (b .words) (b .out)
   unfolding readEffect

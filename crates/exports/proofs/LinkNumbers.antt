@@ -79,4 +79,4 @@ pub unpacking-bst : UnpackingBst
 unfolding UnpackingBst outcomeOf
 unpacking-bst b s r words' out' g =
     let x = g .reading in
-    subst (λ (k : ℕ). BstSays k b s (x .lists) (x .answer)) (sym (ap (λ (e : Effect). e .number) (g .is))) (bst-says b s (x .lists) (x .end) (x .answer) (g .read))
+    subst (λ (k : ℕ). BstSays k b s (x .lists) (x .answer)) (sym (ap (λ (e : Effect). e .number) (g .is))) (bst-says b s (x .lists) (x .end) (x .answer) (g .reads .outcome))

@@ -166,4 +166,4 @@ each-string s field out r out' g =
     let a = g .reading .answer in
     subst (λ (k : ℕ). FieldTold s l field out a k out') (sym (g .is))
     (subst (λ (o : List ℕ). FieldTold s l field out a (fieldNumber s l field out a) o) (sym (g .output-is))
-    (field-told s l (g .reading .end) field out a (g .read) (g .tidy .is) (g .sound .is)))
+    (field-told s l (g .reading .end) field out a (g .reads .outcome) (g .reads .tidy .is) (g .reads .sound .is)))

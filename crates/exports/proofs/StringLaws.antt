@@ -6,13 +6,12 @@ use mathlib.Core.List.{List}
 use lib.ListN.{getD}
 use borrow.Author.Tests.{eq-eqb, ne-eqb, lt-ltb, le-ltb, not-true, not-false}
 use Rattle.bits.specs.Strings.{copyFits, copyString}
-use Rattle.apdu_format.specs.Reading.{readMessage}
 use Rattle.apdu.specs.declared.lists.Lists.{Lists}
 use Rattle.apdu.specs.declared.records.Message.{Message}
 use Rattle.apdu.specs.Values.{emptyRow, emptyEntry}
 use Rattle.apdu_reading.specs.declared.front.Answer.the-variants as answer
 use Rattle.apdu_reading.specs.declared.front.Reading.{Reading}
-use Rattle.apdu_reading.specs.Answers.{outcomeOf, Tidy, SoundRecord}
+use Rattle.apdu_reading.specs.Answers.{Reads}
 use Rattle.words.specs.Answer.{answerNumber}
 use Rattle.exports.specs.declared.strings.StringPart.{StringPart}
 use Rattle.exports.specs.Messages.{refusalNumber, refusalAt}
@@ -68,10 +67,10 @@ module _ (s : List ℕ) (p : StringPart) (out : List ℕ) {r : ℕ} where
 
 -- ---- the call
 
-module _ (s : List ℕ) (field : ℕ) (out : List ℕ) (g : Reading) (e : (outcomeOf s g ≡ readMessage s) × Tidy g × SoundRecord s g) where
+module _ (s : List ℕ) (field : ℕ) (out : List ℕ) (g : Reading) (e : Reads s g) where
   pub string-refused : (k p : ℕ) {r : ℕ} → g .answer ≡ answer.Refused k p → r ≡ refusalAt k p → StringGives s field out r out
   unfolding fieldNumber fieldOutput
-  string-refused k p a q = record { reading = g; read = e .0; tidy = e .1; sound = e .2; is = rw a q; output-is = rw a refl }
+  string-refused k p a q = record { reading = g; reads = e; is = rw a q; output-is = rw a refl }
 
   pub string-given : (m : Message) {p : StringPart} {r : ℕ} {out' : List ℕ} → g .answer ≡ answer.Message m → p ≡ stringPart m (g .lists) field
       → (r ≡ stringNumber s p out) × (out' ≡ stringOutput s p out) → StringGives s field out r out'
@@ -79,9 +78,7 @@ module _ (s : List ℕ) (field : ℕ) (out : List ℕ) (g : Reading) (e : (outco
   string-given m a i q =
       record {
         reading = g;
-        read = e .0;
-        tidy = e .1;
-        sound = e .2;
+        reads = e;
         is = rw a (q .0 ∙ ap (λ (p : StringPart). stringNumber s p out) i);
         output-is = rw a (q .1 ∙ ap (λ (p : StringPart). stringOutput s p out) i);
       }

@@ -6,7 +6,6 @@ use Prim.Native.Nat.{ℕ}
 use mathlib.Core.Path.{_≡_}
 use mathlib.Core.List.{List}
 use Rattle.refusals.specs.Check.{Answer, refused, accepted}
-use Rattle.apdu_format.specs.Reading.{readMessage}
 use Rattle.apdu.specs.declared.lists.Lists.{Lists}
 use Rattle.apdu.specs.declared.records.Bst.{Bst}
 use Rattle.apdu.specs.declared.records.Message.{Message}
@@ -14,7 +13,7 @@ use Rattle.apdu.specs.declared.records.Message.the-variants as kind
 use Rattle.apdu_reading.specs.declared.front.Answer as reader
 use Rattle.apdu_reading.specs.declared.front.Answer.the-variants as answer
 use Rattle.apdu_reading.specs.declared.front.Reading.{Reading}
-use Rattle.apdu_reading.specs.Answers.{outcomeOf, Tidy, SoundRecord}
+use Rattle.apdu_reading.specs.Answers.{Reads}
 use Rattle.initialisation.specs.declared.records.Configuration.{Configuration}
 use Rattle.initialisation.specs.declared.records.Elements.{Elements}
 use Rattle.initialisation.specs.declared.records.Link.{Link}
@@ -109,9 +108,7 @@ readEffect b s lists (answer.Message m) = offeredEffect b s lists (offerOf m)
 -- the contract: the answer, words and output are those of the definition, for the record that reading makes of s
 pub record BstEffect (b : Brought) (s : List ℕ) (r : ℕ) (words' out' : List ℕ) : Type 0 where
   pub reading : Reading
-  pub read : outcomeOf s reading ≡ readMessage s
-  pub tidy : Tidy reading
-  pub sound : SoundRecord s reading
+  pub reads : Reads s reading
   pub is : effect r words' out' ≡ readEffect b s (reading .lists) (reading .answer)
 
 -- ---- what a caller takes out of a number r

@@ -10,7 +10,6 @@ use lib.ListN.{length, getD, drop}
 use Rattle.refusals.specs.Check.{pick}
 use Rattle.bits.specs.Strings.{stringAt, copyFits, copyString}
 use Rattle.apdu_format.specs.Component.{octetString}
-use Rattle.apdu_format.specs.Reading.{readMessage}
 use Rattle.apdu.specs.declared.lists.Entry.{Entry}
 use Rattle.apdu.specs.declared.lists.Lists.{Lists}
 use Rattle.apdu.specs.declared.lists.Row.{Row}
@@ -20,7 +19,7 @@ use Rattle.apdu.specs.Values.{emptyRow, emptyEntry}
 use Rattle.apdu_reading.specs.declared.front.Answer.{Answer}
 use Rattle.apdu_reading.specs.declared.front.Answer.the-variants as answer
 use Rattle.apdu_reading.specs.declared.front.Reading.{Reading}
-use Rattle.apdu_reading.specs.Answers.{outcomeOf, Tidy, SoundRecord}
+use Rattle.apdu_reading.specs.Answers.{Reads}
 use Rattle.words.specs.Answer.{answerNumber, Says, SaysRefused}
 use Rattle.exports.specs.declared.strings.StringPart.{StringPart}
 use Rattle.exports.specs.Messages.{refusalNumber, refusalAt}
@@ -94,9 +93,7 @@ fieldOutput s lists field out (answer.Message m) = stringOutput s (stringPart m 
 -- the contract: the answer and the output are those of the definition, for the record that reading makes of s
 pub record StringGives (s : List ℕ) (field : ℕ) (out : List ℕ) (r : ℕ) (out' : List ℕ) : Type 0 where
   pub reading : Reading
-  pub read : outcomeOf s reading ≡ readMessage s
-  pub tidy : Tidy reading
-  pub sound : SoundRecord s reading
+  pub reads : Reads s reading
   pub is : r ≡ fieldNumber s (reading .lists) field out (reading .answer)
   pub output-is : out' ≡ fieldOutput s (reading .lists) field out (reading .answer)
 
