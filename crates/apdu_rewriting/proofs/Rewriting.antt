@@ -17,7 +17,7 @@ use Rattle.apdu.specs.declared.records.Message.{Message}
 use Rattle.apdu.specs.Values.{valuesOf}
 use Rattle.apdu_reading.specs.declared.front.Answer.the-variants as answer
 use Rattle.apdu_reading.specs.declared.front.Reading.{Reading}
-use Rattle.apdu_reading.specs.Answers.{told, outcomeOf, Tidy, SoundRecord}
+use Rattle.apdu_reading.specs.Answers.{told, outcomeOf, Reads}
 use Rattle.apdu_writing.specs.declared.writing.ApduWritten.{ApduWritten}
 use Rattle.apdu_writing.specs.Answer.{writeAnswer, writeOutput}
 use Rattle.apdu_writing.specs.Answer as writing
@@ -31,11 +31,11 @@ use Rattle.apdu_rewriting.proofs.RoundTrip.{back, writing-read, reading
 abbrev Rewrites : List ℕ → List ℕ → Rewritten → List ℕ → Type 0
 Rewrites s out q out' = (answerOf q ≡ rewriteAnswer s (length out)) × (out' ≡ rewriteOutput s out)
 
-module _ (s out : List ℕ) (r : Reading) (e : (outcomeOf s r ≡ readMessage s) × Tidy r × SoundRecord s r) where
+module _ (s out : List ℕ) (r : Reading) (e : Reads s r) where
   pub reading-refuses : (k p : ℕ) → r .answer ≡ answer.Refused k p → Rewrites s out (rewritten.Refused k p) out
   unfolding answerOf rewriteAnswer answerTo rewriteOutput outputFor outcomeOf told
   reading-refuses k p h =
-      let u : readMessage s ≡ unread k p = sym (e .0) ∙ rw h in
+      let u : readMessage s ≡ unread k p = sym (e .outcome) ∙ rw h in
       (rw u, rw u)
 
   pub writes-back : Octets s → (m : Message) → r .answer ≡ answer.Message m → (w : ApduWritten) {out' : List ℕ}
@@ -43,8 +43,8 @@ module _ (s out : List ℕ) (r : Reading) (e : (outcomeOf s r ≡ readMessage s)
       → Rewrites s out (rewritten.Written w) out'
   unfolding answerOf rewriteAnswer answerTo rewriteOutput outputFor outcomeOf told
   writes-back o m h w f =
-      let u : readMessage s ≡ message (valuesOf s m (r .lists .entries) (r .lists .rows)) (r .end) = sym (e .0) ∙ rw h in
-      let b : WrittenBack s m (r .lists .entries) (r .lists .rows) = back s r m o (record { outcome = e .0; sound = e .2 }) h in
+      let u : readMessage s ≡ message (valuesOf s m (r .lists .entries) (r .lists .rows)) (r .end) = sym (e .outcome) ∙ rw h in
+      let b : WrittenBack s m (r .lists .entries) (r .lists .rows) = back s r m o e h in
       by-cases (ltb (length out) (length s))
       (λ t. let x = b .small out (ltb-true (length out) (length s) t) in (f .0 ∙ x .answer ∙ rw (u, t), f .1 ∙ x .output ∙ rw (u, t)))
       (λ t. let x = b .written out (ltb-false (length out) (length s) t) in (f .0 ∙ x .answer ∙ rw (u, t), f .1 ∙ x .output ∙ rw (u, t)))

@@ -8,9 +8,9 @@ use native.Mathlib.Omega.{arith}
 use lib.ListN.{length, take, drop}
 use lib.Seq.{take-at}
 use lib.Dec.{ltb, eqb}
-use borrow.Author.Tests.{lt-ltb, le-ltb, eqb-true, eq-eqb}
-use Rattle.refusals.specs.Check.{pick, firstOf}
-use Rattle.refusals.proofs.Tests.{and-true, by-cases}
+use borrow.Author.Tests.{lt-ltb, le-ltb, eqb-true}
+use Rattle.refusals.specs.Check.{firstOf}
+use Rattle.refusals.proofs.Tests.{by-cases}
 use Rattle.bits.specs.Bits.{Octets}
 use Rattle.bits.proofs.Laws.{length-octets}
 use Rattle.apdu_format.specs.Limits.{longestMessage}
@@ -24,14 +24,15 @@ use Rattle.apdu.specs.declared.lists.Lists.{Lists}
 use Rattle.apdu.specs.declared.records.Message.{Message}
 use Rattle.apdu.specs.Values.{valuesOf}
 use Rattle.apdu.specs.Sound.{wellFormed}
+use Rattle.apdu.proofs.Formed.{formed-by}
 use Rattle.apdu_reading.specs.declared.front.Answer.{Answer}
 use Rattle.apdu_reading.specs.declared.front.Answer.the-variants as answer
 use Rattle.apdu_reading.specs.declared.front.Reading.{Reading}
-use Rattle.apdu_reading.specs.Answers.{told, outcomeOf, soundBy}
+use Rattle.apdu_reading.specs.Answers.{told, outcomeOf, soundBy, fewBy, Reads}
 use Rattle.apdu_reading.proofs.Encoded.{record-encodes}
 use Rattle.apdu_writing.specs.Answer.{octets, writeRefusal, answered, writeAnswer, writeOutput}
 use Rattle.apdu_writing.proofs.RoundTrip.{written-reads}
-use Rattle.apdu_rewriting.specs.RoundTrip.{Reads, Writes, WrittenBack, WritingRead, sameBy, ReadingWritten, Accepts, ReadingExact}
+use Rattle.apdu_rewriting.specs.RoundTrip.{Writes, WrittenBack, WritingRead, sameBy, ReadingWritten, Accepts, ReadingExact}
 
 -- ---- writing what was read
 
@@ -49,8 +50,8 @@ module _ (s : List ℕ) (r : Reading) (m : Message) (o : Octets s) (reads : Read
   encodes = record-encodes s r (reads .outcome) m is
 
   formed : wellFormed s m es rs ≡ true
-  unfolding wellFormed soundBy
-  formed = and-true (encodes .ranges) (rw is at (reads .sound .is))
+  unfolding soundBy fewBy
+  formed = formed-by s m es rs (encodes .ranges) (rw is at (reads .sound .is)) (rw is at (reads .few .is))
 
   same : encodedOctets vs ≡ s
   same = same-octets s vs o encodes

@@ -1,12 +1,12 @@
--- Demand 2 for messages, about records: what `read` and `write` are to each other, for every octet and every record. Reads s r says of r what the contract
--- of `read` says; writeAnswer and writeOutput are what the contract of `write` says. `rewrite` cites each statement; proofs/RoundTrip.antt proves it.
+-- Demand 2 for messages, about records: what `read` and `write` are to each other, for every octet and every record. Reads s r (apdu_reading) is the
+-- contract of `read`; writeAnswer and writeOutput are what the contract of `write` says. `rewrite` cites each statement; proofs/RoundTrip.antt proves it.
 -- Assumes nothing.
 use Prim.Native.Nat.{ℕ, _≤_, _<_}
 use mathlib.Core.Path.{_≡_}
 use mathlib.Core.List.{List, _++_}
 use lib.ListN.{length, drop}
 use Rattle.bits.specs.Bits.{Octets}
-use Rattle.apdu_format.specs.Reading.{Value, readMessage}
+use Rattle.apdu_format.specs.Reading.{Value}
 use Rattle.apdu_format.specs.RoundTrip.{Same}
 use Rattle.apdu.specs.declared.lists.Row.{Row}
 use Rattle.apdu.specs.declared.lists.Entry.{Entry}
@@ -16,13 +16,8 @@ use Rattle.apdu.specs.Values.{valuesOf}
 use Rattle.apdu_reading.specs.declared.front.Answer.{Answer}
 use Rattle.apdu_reading.specs.declared.front.Answer.the-variants as answer
 use Rattle.apdu_reading.specs.declared.front.Reading.{Reading}
-use Rattle.apdu_reading.specs.Answers.{outcomeOf, SoundRecord}
+use Rattle.apdu_reading.specs.Answers.{Reads}
 use Rattle.apdu_writing.specs.Answer.{refused, octets, writeAnswer, writeOutput}
-
--- r is what reading s answers
-pub record Reads (s : List ℕ) (r : Reading) : Type 0 where
-  pub outcome : outcomeOf s r ≡ readMessage s
-  pub sound : SoundRecord s r
 
 -- writing the record m over the lent octets t to out puts the octets s to its front
 pub record Writes (s t : List ℕ) (m : Message) (es : List Entry) (rs : List Row) (out : List ℕ) : Type 0 where
