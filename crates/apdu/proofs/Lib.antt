@@ -6,3 +6,9 @@ pub mod ValueCases
 pub mod SoundCases
 pub mod TidyCases
 pub mod RowCounterCases
+pub mod SameFields
+pub mod SameRows
+pub mod SameEntries
+pub mod SameServices
+pub mod SameLinks
+pub mod OneRecord
