@@ -19,3 +19,4 @@ pub mod LinkLaws
 pub mod ServiceMessages
 pub mod FrontLaws
 pub mod Encoded
+pub mod Once

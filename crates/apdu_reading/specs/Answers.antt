@@ -1,7 +1,8 @@
 -- What the reader's answer says, in the words of apdu_format's definitions: for each of its cases 01's number and position, or the message's values in
 -- their order and the place behind them. Tidy says that absent fields, unused rows and entries are 0, and so is everything beside a refusal. SoundRecord says
 -- that each part which is present lies inside the octets read, and that each list has the rows that its counts announce; FewRows, that the rows of what is
--- present are at most 32: what 23 asks besides ranges. The arrays of rows and of entries have 32 elements. Reads is all of it: what `read` promises.
+-- present are at most 32: what 23 asks besides ranges. The arrays of rows and of entries have 32 elements. Reads is all of it: what `read` promises,
+-- and ReadOnce, that the octets determine the whole record.
 -- Assumes nothing.
 use Prim.Native.Nat.{ℕ, _*_, _/_}
 use mathlib.Core.Path.{_≡_}
@@ -59,6 +60,10 @@ pub record Reads (s : List ℕ) (r : Reading) : Type 0 where
   pub few : FewRows r
   pub rows : length (r .lists .rows) ≡ 32
   pub entries : length (r .lists .entries) ≡ 32
+
+-- read twice, the same record: whatever meets that promise has one answer, one place behind the message, and the same entries and rows
+unfoldable pub ReadOnce : Type 0
+ReadOnce = (s : List ℕ) (r q : Reading) → Reads s r → Reads s q → r ≡ q
 
 -- ---- within the crate
 

@@ -1,6 +1,6 @@
 // Reading a message (01, "Messages"): left to right, and the first fault decides. The answer is the record of one of the ten kinds, with its entries and
 // rows beside it, or a refusal's number and position.
-ghost use Rattle.apdu_reading.specs.Answers.{Reads};
+ghost use Rattle.apdu_reading.specs.Answers.{Reads, ReadOnce};
 
 mod applications;
 mod closing;
@@ -31,8 +31,10 @@ use services::opening;
 
 // The message that `s` is: 21 for more than 512 octets, then the faults of its components, and 14 for octets left behind it. The rows of a service's
 // message are held here, where the answer is built, so that they are copied once, and cleared before it is read, so that the copy does not wait for the stores.
+// Read twice, the octets give the same record.
 pub fn read(s: &[u8]) -> Reading
     ensures answer { λ r. ⌜ Reads (now (s .entry)) r ⌝ }
+    ensures once { λ _. ⌜ ReadOnce ⌝ }
 {
     if apdu::LONGEST_MESSAGE < s.len() {
         return refused(refusals::APDU_TOO_LONG, apdu::LONGEST_MESSAGE);

@@ -50,7 +50,7 @@ short (suc k) [] = omega arith
 short (suc k) (r ∷ rs) = let q = short k rs in omega arith
 
 -- the rows of a SET are inside, and those that its counts announce
-pub set-rows : (n : ℕ) (m : SetRequest) (rs : List Attribute) → setRequestSound n m rs ≡ true
+set-rows : (n : ℕ) (m : SetRequest) (rs : List Attribute) → setRequestSound n m rs ≡ true
     → (partsFit n (take (m .rows) rs) ≡ true) × (closes (m .count) (take (m .rows) rs) ≡ true)
 unfolding setRequestSound rowsSound
 set-rows n m rs h =
@@ -58,7 +58,7 @@ set-rows n m rs h =
     both (partsFit n l) (closes (m .count) l) (both (soundIf (m .«has_credentials») (isInside n (m .credentials) (m .«credentials_length»))) (partsFit n l && closes (m .count) l) h .1)
 
 -- they stand at the front of its rows
-pub named-front : (n : ℕ) (m : SetRequest) (rs : List Attribute) → setRequestSound n m rs ≡ true → take (m .count) (take (m .rows) rs) ≡ take (m .count) rs
+named-front : (n : ℕ) (m : SetRequest) (rs : List Attribute) → setRequestSound n m rs ≡ true → take (m .count) (take (m .rows) rs) ≡ take (m .count) rs
 named-front n m rs h =
     let l = take (m .rows) rs in
     let k : m .count ≤ m .rows = let a = enough l (m .count) (set-rows n m rs h .1) in let b = short (m .rows) rs in omega arith in
@@ -79,7 +79,7 @@ module _ (tag : Tag) (s out : List ℕ) where
   sound-then : first ≡ 0 → soundDirectory (length (tag .factory)) (length (tag .writable)) (tag .directory) ≡ true
   sound-then z = not-false _ (first-none 25 _ [] (first-none 0 _ _ z .1) .0)
 
-  pub no-fault : (m : SetRequest) (attributes : List Attribute) → setStatus tag s m attributes ≡ 0 → firstOf (setFaults (tag .directory) (sureOf m) (take (m .count) attributes)) ≡ 0
+  no-fault : (m : SetRequest) (attributes : List Attribute) → setStatus tag s m attributes ≡ 0 → firstOf (setFaults (tag .directory) (sureOf m) (take (m .count) attributes)) ≡ 0
   unfolding setStatus
   no-fault m attributes z = first-none 1 _ _ z .1
 

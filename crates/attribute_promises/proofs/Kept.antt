@@ -111,7 +111,7 @@ pub record Fine (rows : List Row) (exact : Bool) (a : Attribute) : Type 0 where
   free : denied exact (rowOf (a .id) rows) ≡ false
 
 module _ (rows : List Row) (exact : Bool) where
-  pub fine-first : (a : Attribute) (rest : List Attribute) → firstOf (setFaults rows exact (a ∷ rest)) ≡ 0 → Fine rows exact a × (firstOf (setFaults rows exact rest) ≡ 0)
+  fine-first : (a : Attribute) (rest : List Attribute) → firstOf (setFaults rows exact (a ∷ rest)) ≡ 0 → Fine rows exact a × (firstOf (setFaults rows exact rest) ≡ 0)
   unfolding setFaults setFault
   fine-first a rest h =
       let p = first-none 1 (not (knownIn (a .id) rows) || (not (eqb (a .kind) octetString) || not (eqb (a .n) (rowOf (a .id) rows .length)))) _ h in

@@ -8,6 +8,4 @@ pub mod Replies
 pub mod GetValues
 pub mod Refusals
 pub mod RefusesOnly
-pub mod SameRecord
-pub mod SameService
 pub mod OneEffect

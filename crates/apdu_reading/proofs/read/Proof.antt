@@ -7,6 +7,7 @@ use lib.Dec.{eqb}
 use Rattle.refusals.specs.Check.{pick}
 use Rattle.apdu_reading.proofs.Fill.{Held, held-none, stopped-rows, some-due, few, again, less, less-stop, done}
 use Rattle.apdu_reading.proofs.ServiceMessages.{opens-ready, read-rows}
+use Rattle.apdu_reading.proofs.Once.{read-once}
 use Rattle.apdu_reading.proofs.FrontLaws.{too-long, choice-refused, message-refused, message-answered}
 use native.Mathlib.Omega.{arith}
 use Rattle.apdu_reading.proofs.read.Statement.{statement}
@@ -22,7 +23,7 @@ refused-requires : tie.Need-refused-requires Inv-loop μ-loop
 refused-requires c κs = tt
 
 returns : tie.Need-returns Inv-loop μ-loop
-returns c = too-long _ (c .before .if1 .taken) (c .refused .ensures)
+returns c = (too-long _ (c .before .if1 .taken) (c .refused .ensures), read-once)
 
 chosen-requires : tie.Need-chosen-requires Inv-loop μ-loop
 chosen-requires c κs = omega (arith, c .if1 .left)
@@ -31,13 +32,13 @@ refused-requires-2 : tie.Need-refused-requires-2 Inv-loop μ-loop
 refused-requires-2 c κs = tt
 
 returns-2 : tie.Need-returns-2 Inv-loop μ-loop
-returns-2 c = choice-refused _ (c .before .before .before .before .if1 .left) _ (c .before .before .before .chosen .ensures) (c .before .if2 .taken) (c .refused2 .ensures)
+returns-2 c = (choice-refused _ (c .before .before .before .before .if1 .left) _ (c .before .before .before .chosen .ensures) (c .before .if2 .taken) (c .refused2 .ensures), read-once)
 
 link-requires : tie.Need-link-requires Inv-loop μ-loop
 link-requires c κs = (c .before .before .before .before .before .if1 .left, record { is = c .before .before .before .before .chosen .ensures; clean = c .before .before .if2 .left }, c .if3 .taken)
 
 returns-3 : tie.Need-returns-3 Inv-loop μ-loop
-returns-3 c = c .link .ensures
+returns-3 c = (c .link .ensures, read-once)
 
 opening-requires : tie.Need-opening-requires Inv-loop μ-loop
 opening-requires c κs = (c .before .before .before .before .before .before .before .if1 .left, record { is = c .before .before .before .before .before .before .chosen .ensures; clean = c .before .before .before .before .if2 .left }, c .before .before .if3 .left)
@@ -88,13 +89,13 @@ refused-requires-3 : tie.Need-refused-requires-3 Inv-loop μ-loop
 refused-requires-3 c κs = tt
 
 returns-4 : tie.Need-returns-4 Inv-loop μ-loop
-returns-4 c = message-refused _ (c .before .before .before .before .before .before .before .before .before .before .before .before .before .before .before .before .before .if1 .left) _ (read-rows (c .before .before .before .before .before .before .before .before .before .opening .ensures) (c .before .before .before .before .before .before .before .before .before .before .no-rows .ensures) (done _ _ _ _ _ (c .before .before .before .before .before .before .before .loop .inv .0) (c .before .before .before .before .before .before .wants .ensures) (c .before .before .before .before .before .before .before .loop .inv .1) (c .before .before .before .before .before .if4 .left)) (c .before .before .before .before .integer-if .ensures)) (c .before .before .before .ended .ensures) (c .before .if6 .taken) (c .refused3 .ensures)
+returns-4 c = (message-refused _ (c .before .before .before .before .before .before .before .before .before .before .before .before .before .before .before .before .before .if1 .left) _ (read-rows (c .before .before .before .before .before .before .before .before .before .opening .ensures) (c .before .before .before .before .before .before .before .before .before .before .no-rows .ensures) (done _ _ _ _ _ (c .before .before .before .before .before .before .before .loop .inv .0) (c .before .before .before .before .before .before .wants .ensures) (c .before .before .before .before .before .before .before .loop .inv .1) (c .before .before .before .before .before .if4 .left)) (c .before .before .before .before .integer-if .ensures)) (c .before .before .before .ended .ensures) (c .before .if6 .taken) (c .refused3 .ensures), read-once)
 
 closed-requires : tie.Need-closed-requires Inv-loop μ-loop
 closed-requires c κs = tt
 
 returns-5 : tie.Need-returns-5 Inv-loop μ-loop
-returns-5 c = message-answered _ (c .before .before .before .before .before .before .before .before .before .before .before .before .before .before .before .before .before .if1 .left) _ (read-rows (c .before .before .before .before .before .before .before .before .before .opening .ensures) (c .before .before .before .before .before .before .before .before .before .before .no-rows .ensures) (done _ _ _ _ _ (c .before .before .before .before .before .before .before .loop .inv .0) (c .before .before .before .before .before .before .wants .ensures) (c .before .before .before .before .before .before .before .loop .inv .1) (c .before .before .before .before .before .if4 .left)) (c .before .before .before .before .integer-if .ensures)) (c .before .before .before .ended .ensures) (c .before .if6 .left) (c .closed .ensures) (c .before .before .before .before .before .before .before .loop .inv .2 ∙ c .before .before .before .before .before .before .before .before .before .before .before .no-entries .ensures)
+returns-5 c = (message-answered _ (c .before .before .before .before .before .before .before .before .before .before .before .before .before .before .before .before .before .if1 .left) _ (read-rows (c .before .before .before .before .before .before .before .before .before .opening .ensures) (c .before .before .before .before .before .before .before .before .before .before .no-rows .ensures) (done _ _ _ _ _ (c .before .before .before .before .before .before .before .loop .inv .0) (c .before .before .before .before .before .before .wants .ensures) (c .before .before .before .before .before .before .before .loop .inv .1) (c .before .before .before .before .before .if4 .left)) (c .before .before .before .before .integer-if .ensures)) (c .before .before .before .ended .ensures) (c .before .if6 .left) (c .closed .ensures) (c .before .before .before .before .before .before .before .loop .inv .2 ∙ c .before .before .before .before .before .before .before .before .before .before .before .no-entries .ensures), read-once)
 
 pub read-spec : {M : Type 1} → statement M
 read-spec = tie.close (tie.spec Inv-loop μ-loop refused-requires returns chosen-requires refused-requires-2 returns-2 link-requires returns-3 no-entries-requires no-rows-requires opening-requires loop-holds wants-requires next-row-requires mul-row element-set-from-row add-used loop-less loop-again loop-less-2 loop-again-2 integer-if-requires ended-requires refused-requires-3 returns-4 closed-requires returns-5)

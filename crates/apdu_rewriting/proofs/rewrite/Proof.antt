@@ -19,13 +19,13 @@ write-requires : tie.Need-write-requires
 write-requires c κs = tt
 
 returns : tie.Need-returns
-returns c = with-round-trips (reading-refuses _ _ _ (c .before .before .before .read .ensures) _ _ (c .before .answer .given .1))
+returns c = with-round-trips (reading-refuses _ _ _ (c .before .before .before .read .ensures .0) _ _ (c .before .answer .given .1))
 
 same-length : tie.Need-same-length
 same-length c = search needs
 
 returns-2 : tie.Need-returns-2
-returns-2 c = with-round-trips (writes-back _ _ _ (c .before .before .before .before .before .before .before .before .before .before .read .ensures) (octets-known _ (c .before .before .before .before .before .before .before .before .before .before .before .before .shared-slice-known .given)) _ (c .before .before .before .before .before .before .before .before .answer2 .given .1) _ (c .before .before .write .ensures))
+returns-2 c = with-round-trips (writes-back _ _ _ (c .before .before .before .before .before .before .before .before .before .before .read .ensures .0) (octets-known _ (c .before .before .before .before .before .before .before .before .before .before .before .before .shared-slice-known .given)) _ (c .before .before .before .before .before .before .before .before .answer2 .given .1) _ (c .before .before .write .ensures))
 
 pub rewrite-spec : {M : Type 1} → statement M
 rewrite-spec = tie.close (tie.spec read-requires enum-known-answer enum-known-answer-2 write-requires returns same-length returns-2)

@@ -34,10 +34,10 @@ hear-requires : tie.Need-hear-requires
 hear-requires c κs = search needs
 
 returns : tie.Need-returns
-returns c = (bst-refused _ _ _ (c .before .before .before .before .before .read .ensures) _ _ (c .before .before .answer .given .1) (c .packed .ensures .0), (unpacking-bst, kept-heard))
+returns c = (bst-refused _ _ _ (c .before .before .before .before .before .read .ensures .0) _ _ (c .before .before .answer .given .1) (c .packed .ensures .0), (unpacking-bst, kept-heard))
 
 returns-2 : tie.Need-returns-2
-returns-2 c = (bst-other _ _ _ (c .before .before .before .before .before .before .before .before .read .ensures) _ _ (c .before .before .before .before .before .answer2 .given .1) (c .before .before .before .offer-of .ensures) (c .before .enum-told .given .1) (c .packed2 .ensures .0), (unpacking-bst, kept-heard))
+returns-2 c = (bst-other _ _ _ (c .before .before .before .before .before .before .before .before .read .ensures .0) _ _ (c .before .before .before .before .before .answer2 .given .1) (c .before .before .before .offer-of .ensures) (c .before .enum-told .given .1) (c .packed2 .ensures .0), (unpacking-bst, kept-heard))
 
 same-length : tie.Need-same-length
 same-length c = search needs
@@ -46,7 +46,7 @@ same-length-2 : tie.Need-same-length-2
 same-length-2 c = search needs
 
 returns-3 : tie.Need-returns-3
-returns-3 c = (bst-heard _ _ _ (c .before .before .before .before .before .before .before .before .before .before .before .before .before .before .before .read .ensures) _ _ (c .before .before .before .before .before .before .before .before .before .before .before .before .answer2 .given .1) (c .before .before .before .before .before .before .before .before .before .before .offer-of .ensures) _ (c .before .before .before .before .before .before .before .before .offer .given .1) (c .before .before .before .before .hear .ensures), (unpacking-bst, kept-heard))
+returns-3 c = (bst-heard _ _ _ (c .before .before .before .before .before .before .before .before .before .before .before .before .before .before .before .read .ensures .0) _ _ (c .before .before .before .before .before .before .before .before .before .before .before .before .answer2 .given .1) (c .before .before .before .before .before .before .before .before .before .before .offer-of .ensures) _ (c .before .before .before .before .before .before .before .before .offer .given .1) (c .before .before .before .before .hear .ensures), (unpacking-bst, kept-heard))
 
 pub semuryeon-link-bst-spec : {M : Type 1} → statement M
 semuryeon-link-bst-spec =

@@ -13,7 +13,7 @@ checked-requires : tie.Need-checked-requires
 checked-requires c κs = search needs
 
 returns : tie.Need-returns
-returns c = (c .checked .ensures ∙ checked-is _ _ (c .before .read .ensures .outcome), unpacking-check)
+returns c = (c .checked .ensures ∙ checked-is _ _ (c .before .read .ensures .0 .outcome), unpacking-check)
 
 pub semuryeon-check-spec : {M : Type 1} → statement M
 semuryeon-check-spec = tie.close (tie.spec read-requires checked-requires returns)

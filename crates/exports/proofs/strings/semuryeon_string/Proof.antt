@@ -24,13 +24,13 @@ give-requires : tie.Need-give-requires
 give-requires c κs = search needs
 
 returns : tie.Need-returns
-returns c = (string-refused _ _ _ _ (c .before .before .before .before .before .read .ensures) _ _ (c .before .before .answer .given .1) (c .packed .ensures .0), each-string)
+returns c = (string-refused _ _ _ _ (c .before .before .before .before .before .read .ensures .0) _ _ (c .before .before .answer .given .1) (c .packed .ensures .0), each-string)
 
 same-length : tie.Need-same-length
 same-length c = search needs
 
 returns-2 : tie.Need-returns-2
-returns-2 c = (string-given _ _ _ _ (c .before .before .before .before .before .before .before .before .before .read .ensures) _ (c .before .before .before .before .before .before .answer2 .given .1) (c .before .before .before .before .part-of .ensures) (c .before .before .give .ensures), each-string)
+returns-2 c = (string-given _ _ _ _ (c .before .before .before .before .before .before .before .before .before .read .ensures .0) _ (c .before .before .before .before .before .before .answer2 .given .1) (c .before .before .before .before .part-of .ensures) (c .before .before .give .ensures), each-string)
 
 pub semuryeon-string-spec : {M : Type 1} → statement M
 semuryeon-string-spec =
