@@ -12,7 +12,7 @@ use lib.ListN.{length, length-set, getD, take, set, List·getD-eq-default}
 use lib.Seq.{length-take-le, take-suc-set, getD-take}
 use borrow.Author.Tests.{lt-ltb, le-ltb, ltb-true, ltb-false, le-leb, lt-leb, leb-true, leb-false, not-true, not-false}
 use denote.Ref.{RefT, now}
-use Rattle.refusals.specs.Check.{firstOf, decided}
+use Rattle.refusals.specs.Check.{firstOf, decided, Answer}
 use Rattle.refusals.proofs.Tests.{by-cases}
 use Rattle.directory.specs.declared.Row.{Row}
 use Rattle.directory.specs.declared.Directory.{Directory}
@@ -24,21 +24,22 @@ use Rattle.directory.specs.Gathered.{noDirectory, withRow, gatheredFrom,
 
 -- ---- soundness by value
 
+-- up to 32 rows are those in front
+pub list-is : (d : Directory) → d .count ≤ 32 → listOf d ≡ take (d .count) (d .rows)
+unfolding listOf
+list-is d few = simp (le-leb _ _ few)
+
 module _ (f w : ℕ) (d : Directory) where
   pub too-many : 32 < d .count → false ≡ soundDirectory f w (listOf d)
   unfolding listOf soundDirectory
   too-many h = simp (lt-leb _ _ h)
 
   module _ (few : d .count ≤ 32) (long : length (d .rows) ≡ 32) where
-    pub list-is : listOf d ≡ take (d .count) (d .rows)
-    unfolding listOf
-    list-is = simp (le-leb _ _ few)
-
     counted : length (take (d .count) (d .rows)) ≡ d .count
     counted = length-take-le (d .count) (d .rows) (omega arith)
 
     pub count-is : length (listOf d) ≡ d .count
-    count-is = ap length list-is ∙ counted
+    count-is = ap length (list-is d few) ∙ counted
 
     in-count : leb (length (take (d .count) (d .rows))) mostRows ≡ true
     in-count = le-leb (length (take (d .count) (d .rows))) mostRows (omega (arith, counted))
@@ -46,11 +47,11 @@ module _ (f w : ℕ) (d : Directory) where
     module _ {e : Bool} (each : e ≡ eachSound f w (take (d .count) (d .rows))) where
       pub some-bad : not e ≡ true → false ≡ soundDirectory f w (listOf d)
       unfolding soundDirectory
-      some-bad h = rw list-is (simp (in-count, ← each, not-true e h))
+      some-bad h = rw (list-is d few) (simp (in-count, ← each, not-true e h))
 
       pub all-good : {a : Bool} → not e ≡ false → a ≡ allApart (take (d .count) (d .rows)) → a ≡ soundDirectory f w (listOf d)
       unfolding soundDirectory
-      all-good h k = k ∙ rw list-is (simp (in-count, ← each, not-false e h))
+      all-good h k = k ∙ rw (list-is d few) (simp (in-count, ← each, not-false e h))
 
 -- ---- looking up by value
 
@@ -81,14 +82,11 @@ module _ (d : Directory) (id : ℕ) where
   find-many h = simp (lt-leb _ _ h)
 
   module _ (few : d .count ≤ 32) (long : length (d .rows) ≡ 32) {i : ℕ} (at : i ≡ indexOf id (take (d .count) (d .rows))) where
-    list : listOf d ≡ take (d .count) (d .rows)
-    list = list-is 0 0 d few long
-
     in-limit : leb (length (listOf d)) mostRows ≡ true
     in-limit = le-leb (length (listOf d)) mostRows (omega (arith, count-is 0 0 d few long))
 
     index : indexOf id (listOf d) ≡ i
-    index = ap (indexOf id) list ∙ sym at
+    index = ap (indexOf id) (list-is d few) ∙ sym at
 
     knows-it : knownIn id (listOf d) ≡ ltb i (d .count)
     unfolding knownIn
@@ -101,7 +99,7 @@ module _ (d : Directory) (id : ℕ) where
     pub find-row : i < d .count → record { known = true; row = getD (d .rows) i noRow } ≡ finding (listOf d) id
     unfolding finding rowOf
     find-row h =
-        let e : getD (listOf d) (indexOf id (listOf d)) noRow ≡ getD (d .rows) i noRow = rw (index, list) (getD-take (d .count) (d .rows) i noRow h) in
+        let e : getD (listOf d) (indexOf id (listOf d)) noRow ≡ getD (d .rows) i noRow = rw (index, list-is d few) (getD-take (d .count) (d .rows) i noRow h) in
         simp (in-limit, knows-it, lt-ltb _ _ h, e)
 
 -- ---- a sound directory
@@ -270,3 +268,15 @@ module _ (f w : ℕ) (rs : List Row) (id : ℕ) where
 pub gathered-looked : (rs : List Row) (factory writable : RefT (List ℕ)) (id : ℕ) (r : RefT (List ℕ))
     → LookedUp (listOf (gathered rs)) factory writable id r → LookedUp rs factory writable id r
 gathered-looked rs factory writable id r l = record { part = rw (gathered-row (length (now factory)) (length (now writable)) rs id) at (l .part) }
+
+-- ---- the rows in front of an array
+
+module _ (rows : List Row) (count id : ℕ) where
+  abbrev among : Directory
+  among = record { rows = rows; count = count }
+
+  pub among-knowing : (f w : ℕ) {a : Answer Bool} → a ≡ knowing f w (take count rows) id → count ≤ 32 → a ≡ knowing f w (listOf among) id
+  among-knowing f w h few = rw (list-is among few) h
+
+  pub among-looked : (factory writable r : RefT (List ℕ)) → LookedUp (take count rows) factory writable id r → count ≤ 32 → LookedUp (listOf among) factory writable id r
+  among-looked factory writable r h few = rw (list-is among few) h

@@ -1,5 +1,6 @@
 // The tag's directory of attributes (01, "Reading and setting attributes"): which part of which area an attribute is.
-// The directory is a lent list of rows. The functions over it (gather, lookup, knows) take its rows into a value and call the others.
+// The directory is a lent list of rows. The functions over it (gather, lookup, knows) take its rows into a value and call the others; lookup_among and
+// knows_among lend them the first rows of an array.
 ghost use mathlib.Core.Path.{_≡_};
 ghost use Prim.Native.Nat.{_+_, _≤_};
 ghost use lib.ListN.{length, take};
@@ -220,7 +221,7 @@ fn between<'a>(s: &'a [u8], start: usize, n: usize) -> &'a [u8]
 }
 
 // The lookup over the rows by value.
-pub fn lookup_in<'a>(d: Directory, factory: &'a [u8], writable: &'a [u8], id: u8) -> &'a [u8]
+fn lookup_in<'a>(d: Directory, factory: &'a [u8], writable: &'a [u8], id: u8) -> &'a [u8]
     ensures { λ r. ⌜ LookedUp (listOf d) (factory .entry) (writable .entry) id r ⌝ }
 {
     let row = row_for(d, factory.len(), writable.len(), id);
@@ -233,7 +234,7 @@ pub fn lookup_in<'a>(d: Directory, factory: &'a [u8], writable: &'a [u8], id: u8
 }
 
 // The second call over the rows by value.
-pub fn knows_in(d: Directory, factory: usize, writable: usize, id: u8) -> KnowsAnswer
+fn knows_in(d: Directory, factory: usize, writable: usize, id: u8) -> KnowsAnswer
     ensures { λ r. ⌜ answerOf r ≡ knowing factory writable (listOf d) id ⌝ }
 {
     if !sound_in(d, factory, writable) {
@@ -296,4 +297,58 @@ pub fn knows(rows: &[Row], factory: usize, writable: usize, id: u8) -> KnowsAnsw
     ensures { λ r. ⌜ answerOf r ≡ knowing factory writable (now (rows .entry)) id ⌝ }
 {
     knows_in(gather(rows), factory, writable, id)
+}
+
+// ---- the first rows of an array, lent
+
+fn lookup_lent<'a>(
+    rows: [Row; 32],
+    count: usize,
+    factory: &'a [u8],
+    writable: &'a [u8],
+    id: u8,
+) -> &'a [u8]
+    requires { ⌜ count ≤ 32 ⌝ }
+    ensures { λ r. ⌜ LookedUp (take count rows) (factory .entry) (writable .entry) id r ⌝ }
+{
+    lookup(&rows[..count], factory, writable, id)
+}
+
+fn knows_lent(rows: [Row; 32], count: usize, factory: usize, writable: usize, id: u8) -> KnowsAnswer
+    requires { ⌜ count ≤ 32 ⌝ }
+    ensures { λ r. ⌜ answerOf r ≡ knowing factory writable (take count rows) id ⌝ }
+{
+    knows(&rows[..count], factory, writable, id)
+}
+
+// The lookup among the first `count` rows; for a count above 32, the empty part at the factory area's front.
+pub fn lookup_among<'a>(
+    rows: [Row; 32],
+    count: usize,
+    factory: &'a [u8],
+    writable: &'a [u8],
+    id: u8,
+) -> &'a [u8]
+    ensures { λ r. ⌜ LookedUp (listOf (record { rows = rows; count = count })) (factory .entry) (writable .entry) id r ⌝ }
+{
+    if MOST_ROWS < count {
+        return between(factory, 0, 0);
+    }
+    lookup_lent(rows, count, factory, writable, id)
+}
+
+// The second call on the first `count` rows; 26 for a count above 32.
+pub fn knows_among(
+    rows: [Row; 32],
+    count: usize,
+    factory: usize,
+    writable: usize,
+    id: u8,
+) -> KnowsAnswer
+    ensures { λ r. ⌜ answerOf r ≡ knowing factory writable (listOf (record { rows = rows; count = count })) id ⌝ }
+{
+    if MOST_ROWS < count {
+        return KnowsAnswer::Refused(refusals::LIST_NOT_SOUND);
+    }
+    knows_lent(rows, count, factory, writable, id)
 }

@@ -76,7 +76,7 @@ pub extern "C" fn semuryeon_lookup(
 {
     let d = directory_in(rows);
     let sought = narrow(id);
-    let answer = directory::knows_in(d, factory, writable, sought);
+    let answer = directory::knows_among(d.rows, d.count, factory, writable, sought);
     match answer {
         KnowsAnswer::Refused(number) => packed(number, 0, 0, 0),
         KnowsAnswer::Known(known) => {

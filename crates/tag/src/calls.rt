@@ -225,7 +225,13 @@ fn request(
 // Whether the directory has the id; the part itself is looked up where it is printed.
 fn look_up(tag: Tag, id: u8) -> Answer {
     let directory = tag.directory;
-    match directory::knows_in(directory, tag.factory, tag.writable, id) {
+    match directory::knows_among(
+        directory.rows,
+        directory.count,
+        tag.factory,
+        tag.writable,
+        id,
+    ) {
         KnowsAnswer::Refused(number) => Answer::Refused(number),
         KnowsAnswer::Known(known) => {
             if known {

@@ -89,7 +89,7 @@ fn put_answer<'a>(
             let b = put_word(text, b" known ", at);
             put_octets(
                 text,
-                directory::lookup_in(directory, factory, writable, id),
+                directory::lookup_among(directory.rows, directory.count, factory, writable, id),
                 b,
             )
         }
