@@ -1,3 +1,4 @@
+pub mod Among
 pub mod Promises
 pub mod Kept
 pub mod Afterwards

@@ -21,7 +21,7 @@ use directory::Directory;
 use directory::sound_in;
 
 // The octets that a reply may need.
-const LEAST_OUTPUT: usize = 512;
+pub const LEAST_OUTPUT: usize = 512;
 
 fn not_served() -> RequestAnswer
     ensures { λ r. ⌜ r ≡ unserved ⌝ }
@@ -82,7 +82,7 @@ fn carry_out(
 
 // Answers the request `s` of a tag with this eid, these credentials, this directory and these areas: 1 for an output below 512 octets, 26 for a directory
 // that is not sound, reading's refusals, 24 for a request that is not served. A refusal, or a status other than 0, changes no attribute octet.
-pub fn request_in(
+pub(crate) fn request_in(
     s: &[u8],
     eid: u64,
     credentials: &[u8],

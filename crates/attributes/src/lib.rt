@@ -12,7 +12,8 @@ mod values;
 
 pub use answers::RequestAnswer;
 pub use answers::RequestOutcome;
-pub use calls::request_in;
+pub use calls::LEAST_OUTPUT;
+use calls::request_in;
 use directory::Row;
 use directory::gather;
 

@@ -41,11 +41,13 @@ pub extern "C" fn semuryeon_request(
     ensures answer { λ r. ⌜ RequestGives (tagOf eid (now (credentials .entry)) (rowsIn (now (rows .entry))) (now (factory .entry)) (now (writable .entry))) (now (s .entry)) (now (out .entry)) r (now (writable .exit)) (now (out .exit)) ⌝ }
     ensures unpacking { λ _. ⌜ UnpackingRequest ⌝ }
 {
-    let result = attributes::request_in(
+    let d = directory_in(rows);
+    let result = attribute_promises::request_among(
         s,
         eid as u64,
         credentials,
-        directory_in(rows),
+        d.rows,
+        d.count,
         factory,
         writable,
         out,

@@ -209,11 +209,12 @@ fn request(
         return Answer::Refused(refusals::OUTPUT_TOO_SMALL);
     }
     let directory = tag.directory;
-    let answer = attributes::request_in(
+    let answer = attribute_promises::request_among(
         octets,
         tag.eid as u64,
         credentials,
-        directory,
+        directory.rows,
+        directory.count,
         factory,
         &mut writable[..n],
         output,

@@ -7,8 +7,8 @@ use Rattle.exports.proofs.attribute_calls.semuryeon_request.Tie as tie
 directory-in-requires : tie.Need-directory-in-requires
 directory-in-requires c κs = search needs
 
-request-in-requires : tie.Need-request-in-requires
-request-in-requires c κs = search needs
+request-among-requires : tie.Need-request-among-requires
+request-among-requires c κs = search needs
 
 told-requires : tie.Need-told-requires
 told-requires c κs = search needs
@@ -20,14 +20,14 @@ same-length-2 : tie.Need-same-length-2
 same-length-2 c = search needs
 
 returns : tie.Need-returns
-returns c = (rw (← c .before .before .before .before .before .before .before .before .directory-in .ensures .0) (record { call = c .before .before .before .before .before .request-in .result; answered = c .before .before .before .before .before .request-in .ensures; is = c .told .ensures }), unpacking-request)
+returns c = (rw (← c .before .before .before .before .before .before .before .before .directory-in .ensures .0) (record { call = c .before .before .before .before .before .request-among .result; answered = c .before .before .before .before .before .request-among .ensures; is = c .told .ensures }), unpacking-request)
 
 pub semuryeon-request-spec : {M : Type 1} → statement M
 semuryeon-request-spec =
     tie.close
     (tie.spec
     directory-in-requires
-    request-in-requires
+    request-among-requires
     told-requires
     same-length
     same-length-2
