@@ -42,11 +42,12 @@ pub extern "C" fn semuryeon_request(
     ensures unpacking { λ _. ⌜ UnpackingRequest ⌝ }
 {
     let d = directory_in(rows);
+    let listed = d.rows;
     let result = attribute_promises::request_among(
         s,
         eid as u64,
         credentials,
-        d.rows,
+        listed,
         d.count,
         factory,
         writable,
@@ -78,7 +79,8 @@ pub extern "C" fn semuryeon_lookup(
 {
     let d = directory_in(rows);
     let sought = narrow(id);
-    let answer = directory::knows_among(d.rows, d.count, factory, writable, sought);
+    let listed = d.rows;
+    let answer = directory::knows_among(listed, d.count, factory, writable, sought);
     match answer {
         KnowsAnswer::Refused(number) => packed(number, 0, 0, 0),
         KnowsAnswer::Known(known) => {

@@ -209,11 +209,12 @@ fn request(
         return Answer::Refused(refusals::OUTPUT_TOO_SMALL);
     }
     let directory = tag.directory;
+    let rows = directory.rows;
     let answer = attribute_promises::request_among(
         octets,
         tag.eid as u64,
         credentials,
-        directory.rows,
+        rows,
         directory.count,
         factory,
         &mut writable[..n],
@@ -226,13 +227,8 @@ fn request(
 // Whether the directory has the id; the part itself is looked up where it is printed.
 fn look_up(tag: Tag, id: u8) -> Answer {
     let directory = tag.directory;
-    match directory::knows_among(
-        directory.rows,
-        directory.count,
-        tag.factory,
-        tag.writable,
-        id,
-    ) {
+    let rows = directory.rows;
+    match directory::knows_among(rows, directory.count, tag.factory, tag.writable, id) {
         KnowsAnswer::Refused(number) => Answer::Refused(number),
         KnowsAnswer::Known(known) => {
             if known {

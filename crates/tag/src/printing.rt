@@ -87,9 +87,10 @@ fn put_answer<'a>(
         Answer::NoReply => put_word(text, b" no-reply", at),
         Answer::Known(id) => {
             let b = put_word(text, b" known ", at);
+            let rows = directory.rows;
             put_octets(
                 text,
-                directory::lookup_among(directory.rows, directory.count, factory, writable, id),
+                directory::lookup_among(rows, directory.count, factory, writable, id),
                 b,
             )
         }

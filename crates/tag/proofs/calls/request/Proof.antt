@@ -9,17 +9,17 @@ use Rattle.tag.proofs.calls.request.Tie as tie
 returns : tie.Need-returns
 returns c = search needs
 
-cast-request-in : tie.Need-cast-request-in
-cast-request-in c = search needs
+cast-request-among : tie.Need-cast-request-among
+cast-request-among c = search needs
 
-slice-relend-prefix-request-in : tie.Need-slice-relend-prefix-request-in
-slice-relend-prefix-request-in c = search needs
+slice-relend-prefix-request-among : tie.Need-slice-relend-prefix-request-among
+slice-relend-prefix-request-among c = search needs
 
-slice-aggregate-request-in : tie.Need-slice-aggregate-request-in
-slice-aggregate-request-in c = sym (length-take-le _ _ (omega arith))
+slice-aggregate-request-among : tie.Need-slice-aggregate-request-among
+slice-aggregate-request-among c = sym (length-take-le _ _ (omega arith))
 
-request-in-requires : tie.Need-request-in-requires
-request-in-requires c κs = search needs
+request-among-requires : tie.Need-request-among-requires
+request-among-requires c κs = search needs
 
 request-answer-requires : tie.Need-request-answer-requires
 request-answer-requires c κs = search needs
@@ -38,10 +38,10 @@ request-spec =
     tie.close
     (tie.spec
     returns
-    cast-request-in
-    slice-relend-prefix-request-in
-    slice-aggregate-request-in
-    request-in-requires
+    cast-request-among
+    slice-relend-prefix-request-among
+    slice-aggregate-request-among
+    request-among-requires
     request-answer-requires
     same-length
     same-length-2
