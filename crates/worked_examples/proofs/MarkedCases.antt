@@ -18,5 +18,5 @@ use Rattle.attributes.specs.Serving.{exact, denied, getFault, getFaults, idsFro
 use Rattle.worked_examples.specs.MarkedCases.{MarkedCasesHold, headerResult, messageResult, sentOf, requestResult, result}
 
 pub marked-cases-hold : MarkedCasesHold
-unfolding firstOf decided digits bits number field octets endBit headerLength counterIn lengthFor headerOf readRefusal readHeader headerBits headerOctets headerResult layoutOf shape begins checksOf present times content brings announced numbersOf sum need fieldsOf valueAt octetOf beginning faultOf positionOf judged step through run runs outcome readFront alone readMessage fieldBits fieldsFit bitsOf areBits fits isValue putValue putFirst put puts written encode size encodedOctets messageResult result isInside stringAt copyFits copyString none inRange idsAt headValues rowValues rowsValues setRequestValues getRequestValues getResponseValues responseValues valuesOf partFits partsFit closes rowsSound getResponseSound sound rowsPresent rowsFit wellFormed told outcomeOf writeRefusal answered writeAnswer writeOutput rowSound eachSound shareOctet clashes apartFrom allApart soundDirectory indexOf knownIn rowOf exact denied getFault getFaults idsFrom getStatus valueOf valuesIn attributesAt rowsOf getReply getRefusal writes sent tooLong getting setFault setFaults setStatus setRow setRows setReply setting served carried byReading requested sentOf requestResult
+unfolding MarkedCasesHold firstOf decided digits bits number field octets endBit headerLength counterIn lengthFor headerOf readRefusal readHeader headerBits headerOctets headerResult layoutOf shape begins checksOf present times content brings announced numbersOf sum need fieldsOf valueAt octetOf beginning faultOf positionOf judged step through run runs outcome readFront alone readMessage fieldBits fieldsFit bitsOf areBits fits isValue putValue putFirst put puts written encode size encodedOctets messageResult result isInside stringAt copyFits copyString none inRange idsAt headValues rowValues rowsValues setRequestValues getRequestValues getResponseValues responseValues valuesOf partFits partsFit closes rowsSound getResponseSound sound rowsPresent rowsFit wellFormed told outcomeOf writeRefusal answered writeAnswer writeOutput rowSound eachSound shareOctet clashes apartFrom allApart soundDirectory indexOf knownIn rowOf exact denied getFault getFaults idsFrom getStatus valueOf valuesIn attributesAt rowsOf getReply getRefusal writes sent tooLong getting setFault setFaults setStatus setRow setRows setReply setting served carried byReading requested sentOf requestResult
 marked-cases-hold = refl

@@ -163,6 +163,6 @@ marked =
     (0x54 ∷ 0x01 ∷ 0x00 ∷ []) (0x41 ∷ 0x42 ∷ [])
     ∷ []
 
--- what is proved
-abbrev pub MarkedCasesHold : Type 0
+-- what is proved; `run_cases` of the program cites it
+unfoldable pub MarkedCasesHold : Type 0
 MarkedCasesHold = map (λ (c : Case). result (c .given)) marked ≡ map (λ (c : Case). c .gives) marked

@@ -8,6 +8,7 @@ use apdu::Lists;
 use apdu::Message;
 use apdu::Request;
 use apdu::Row;
+use apdu::SetRequest;
 use apdu::Vst;
 use apdu_writing::ApduWritten;
 
@@ -132,6 +133,69 @@ fn their_lists(rows: u8) -> Lists {
     }
 }
 
+// A SET of 16 attributes, the first of which is a list of 16: 32 rows, and so many are said to be there.
+fn set_of(rows: usize) -> SetRequest {
+    SetRequest {
+        fill: 0,
+        mode: true,
+        eid: 1,
+        has_credentials: false,
+        credentials: 0,
+        credentials_length: 0,
+        count: 16,
+        rows,
+        has_iid: false,
+        iid: 0,
+    }
+}
+
+// Those 32 rows; and beside them two entries, of which the first has all rows and the second, a string, says that it has so many.
+fn full_lists(rows: u8) -> Lists {
+    let mut table = [Row {
+        id: 1,
+        kind: 7,
+        n: 1,
+        start: 0,
+    }; 32];
+    table[0] = Row {
+        id: 1,
+        kind: 9,
+        n: 16,
+        start: 0,
+    };
+    let mut entries = apdu::no_entries();
+    entries[0] = Entry {
+        has_eid: false,
+        has_parameter: true,
+        aid: 1,
+        eid: 0,
+        kind: 9,
+        n: 16,
+        start: 0,
+        rows: 32,
+    };
+    entries[1] = Entry {
+        has_eid: false,
+        has_parameter: true,
+        aid: 2,
+        eid: 0,
+        kind: 2,
+        n: 2,
+        start: 0,
+        rows,
+    };
+    Lists {
+        entries,
+        rows: table,
+    }
+}
+
+fn into_112(label: &[u8], m: Message, lists: Lists) {
+    let lent = [0x41u8, 0x42];
+    let mut out = [0xFFu8; 112];
+    write(label, m, lists, &lent, &mut out);
+}
+
 fn into_twenty(label: &[u8], m: Message, lists: Lists) {
     let lent = [0x41u8, 0x42];
     let mut out = [0xFFu8; 20];
@@ -194,5 +258,26 @@ pub(crate) fn run() {
         b"vst with an absent parameter of 255 rows",
         Message::Vst(two_applications()),
         their_lists(255),
+    );
+    // 32 rows and no more, summed over the entries
+    into_112(
+        b"set of 32 rows",
+        Message::SetRequest(set_of(32)),
+        full_lists(0),
+    );
+    into_112(
+        b"set of 33 rows",
+        Message::SetRequest(set_of(33)),
+        full_lists(0),
+    );
+    into_112(
+        b"vst of 32 and 0 rows",
+        Message::Vst(two_applications()),
+        full_lists(0),
+    );
+    into_112(
+        b"vst of 32 and 1 rows",
+        Message::Vst(two_applications()),
+        full_lists(1),
     );
 }

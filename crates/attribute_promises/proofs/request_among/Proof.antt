@@ -12,10 +12,10 @@ read-requires : tie.Need-read-requires
 read-requires c κs = search needs
 
 returns : tie.Need-returns
-returns c = answered-1 _ _ _ _ (c .before .read .ensures) (c .if2 .taken)
+returns c = answered-1 _ _ _ _ (c .before .read .ensures .0) (c .if2 .taken)
 
 returns-2 : tie.Need-returns-2
-returns-2 c = answered-26 _ _ _ _ (c .before .read .ensures) (c .if2 .left) (too-many _ _ _ (omega arith)) refl
+returns-2 c = answered-26 _ _ _ _ (c .before .read .ensures .0) (c .if2 .left) (too-many _ _ _ (omega arith)) refl
 
 request-lent-requires : tie.Need-request-lent-requires
 request-lent-requires c κs = search needs
