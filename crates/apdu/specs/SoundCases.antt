@@ -1,12 +1,12 @@
 -- Computed cases of Sound.antt (01, row 23): records over lent octets, and whether they are sound and whether they are
 -- well-formed. A string or a list of ids must lie inside the octets; a list must have the rows that it announces; every
--- value must be in range. What is absent or unused is passed over.
+-- value must be in range; at most 32 rows may be present. What is absent or unused is passed over.
 -- Assumes nothing.
 use Prim.Native.Nat.{ℕ}
 use mathlib.Core.Path.{_≡_}
 use mathlib.Core.List.{List, [], _∷_, map}
 use mathlib.Core.Bool.{Bool, true, false}
-use lib.ListN.{length, take}
+use lib.ListN.{length, take, replicate}
 use Rattle.apdu.specs.declared.lists.Row.{Row}
 use Rattle.apdu.specs.declared.lists.Entry.{Entry}
 use Rattle.apdu.specs.declared.records.Message.{Message}
@@ -41,7 +41,7 @@ good n m es rs = record { octets = n; message = m; entries = es; rows = rs; is =
 abbrev pub bad : ℕ → Message → List Entry → List Row → Case
 bad n m es rs = record { octets = n; message = m; entries = es; rows = rs; is = record { sound = false; wellFormed = false } }
 
--- sound, and a value out of range
+-- sound, and a value out of range or too many rows
 abbrev pub wide : ℕ → Message → List Entry → List Row → Case
 wide n m es rs = record { octets = n; message = m; entries = es; rows = rs; is = record { sound = true; wellFormed = false } }
 
@@ -83,6 +83,17 @@ idsEntry = entryWith (held there 9 1 99 1)
 
 abbrev pub outsideEntry : Entry
 outsideEntry = entryWith (held there 2 1 99 0)
+
+-- 32 rows: a list of 16 rows and 15 more
+abbrev pub fullRows : List Row
+fullRows = row 0x14 9 16 99 ∷ replicate 31 eidRow
+
+-- an entry whose list has them all; one with an EID, which has no rows and says that it has one
+abbrev pub fullEntry : Entry
+fullEntry = entryWith (held there 9 16 99 32)
+
+abbrev pub oneMoreEntry : Entry
+oneMoreEntry = entryWith (held there 7 0x21 99 1)
 
 abbrev pub cases : List Case
 cases =
@@ -154,6 +165,30 @@ cases =
     -- sound, and out of range: an id whose first bit is 1, a container kind that is not read
     ∷ wide 6 (getRequest 0 (part there 12 4) (field there 6) (part there 32 1)) [] []
     ∷ wide 6 (actionRequest true (part absent 0 0) (held there 3 1 0 0) (field absent 0)) [] []
+    -- at most 32 rows of what is present, summed over the entries; absent lists and parameters are passed over
+    ∷ good 0 (setRequest 0 true (part absent 0 0) 16 32 (field absent 0)) [] fullRows
+    ∷ wide 0 (setRequest 0 true (part absent 0 0) 16 33 (field absent 0)) [] fullRows
+    ∷ good 0 (getResponse 0 (field there 6) (attributes there 16 32) (field there 7)) [] fullRows
+    ∷ wide 0 (getResponse 0 (field there 6) (attributes there 16 33) (field there 7)) [] fullRows
+    ∷ good 0 (getResponse 0 (field there 6) (attributes absent 16 33) (field there 7)) [] fullRows
+    ∷ good 0 (actionRequest true (part absent 0 0) (held there 9 16 99 32) (field absent 0)) [] fullRows
+    ∷ wide 0 (actionRequest true (part absent 0 0) (held there 9 16 99 33) (field absent 0)) [] fullRows
+    ∷ good 0 (actionRequest true (part absent 0 0) (held absent 9 16 99 33) (field absent 0)) [] fullRows
+    ∷ wide 0 (eventRequest true (part absent 0 0) (held there 9 16 99 33) (field absent 0)) [] fullRows
+    ∷ good 0 (eventRequest true (part absent 0 0) (held absent 9 16 99 33) (field absent 0)) [] fullRows
+    ∷ wide 0 (actionResponse 0 (field there 6) (held there 9 16 99 33) (field there 7)) [] fullRows
+    ∷ good 0 (actionResponse 0 (field there 6) (held absent 9 16 99 33) (field there 7)) [] fullRows
+    ∷ good 4 (bst 1 (field there 1) 4 3) (fullEntry ∷ bareEntry ∷ []) fullRows
+    ∷ wide 4 (bst 1 (field there 1) 4 3) (fullEntry ∷ oneMoreEntry ∷ []) fullRows
+    ∷ wide 4 (bst 2 (field absent 1) 4 3) (fullEntry ∷ oneMoreEntry ∷ []) fullRows
+    ∷ good 4 (bst 1 (field absent 1) 4 3) (fullEntry ∷ oneMoreEntry ∷ []) fullRows
+    ∷ good 0 (vst 0 2 (field there 1)) (fullEntry ∷ bareEntry ∷ []) fullRows
+    ∷ wide 0 (vst 0 2 (field there 1)) (fullEntry ∷ oneMoreEntry ∷ []) fullRows
+    ∷ good 0 (vst 0 1 (field there 1)) (fullEntry ∷ oneMoreEntry ∷ []) fullRows
+    -- responses without lists have none
+    ∷ good 0 (eventResponse 0 (field there 6) (field there 7)) (fullEntry ∷ oneMoreEntry ∷ []) fullRows
+    ∷ good 0 (setResponse 0 (field there 6) (field there 7)) (fullEntry ∷ oneMoreEntry ∷ []) fullRows
+    ∷ good 4 (getRequest 0 (part absent 0 0) (field absent 0) (part there 8 3)) (fullEntry ∷ oneMoreEntry ∷ []) fullRows
     ∷ []
 
 -- what is proved
