@@ -8,3 +8,4 @@ pub mod Parts
 pub mod Reading
 pub mod RoundTrip
 pub mod Spelling
+pub mod LineCases

@@ -5,3 +5,4 @@ pub mod Numerals
 pub mod RoundTrip
 pub mod Splitting
 pub mod Text
+pub mod LineCases

@@ -13,3 +13,4 @@ pub mod Theorem
 pub mod Accepting
 pub mod Headed
 pub mod CallLaws
+pub mod LedgerCases

@@ -2,6 +2,7 @@ pub mod Checks
 pub mod Engine
 pub mod Ledger
 pub mod History
+pub mod LedgerCases
 pub mod Runs
 pub mod Holding
 pub mod Demand3
