@@ -17,15 +17,15 @@ class Clause:
         self.is_promise = says_nothing_of_the_result or name not in ('', *OWN_CLAUSES)
         pairs = [named_in(source, token) for token in tokens]
         self.text = ' '.join(text for text, _ in pairs)
-        self.keys = [key for _, key in pairs if key]
+        self.keys = [key for _, keys in pairs for key in keys]
 
 
 def named_in(source, token):
-    """(text, key) of a token of a clause: a `ghost use` brings it, or it is a type of the source."""
-    text, key = imported(source.scope, token)
+    """(text, keys) of a token of a clause: a `ghost use` brings it, or it is a type of the source."""
+    text, keys = imported(source.scope, token)
     kind = token.partition('.')[0]
-    if key or not (kind in source.definitions or kind in source.uses):
-        return text, key
+    if keys or not (kind in source.definitions or kind in source.uses):
+        return text, keys
     return text, source.resolve(kind)[1]
 
 

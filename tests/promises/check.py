@@ -129,7 +129,7 @@ def proved_names(tree):
             scope = Scope()
             for line in re.findall(r'^use \S+\.\{[^}]*\}|^use \S+ as \S+', text, re.MULTILINE):
                 scope.add(line, name)
-            keys |= {imported(scope, token)[1] for token in found}
+            keys |= {key for token in found for key in imported(scope, token)[1]}
     return keys
 
 

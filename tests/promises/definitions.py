@@ -98,7 +98,7 @@ class Definition:
         """Its text and the keys of what it names."""
         if self.known is None:
             pairs = [self.file.resolve(token) for token in self.tokens]
-            self.known = ' '.join([self.full] + [text for text, _ in pairs]), {key for _, key in pairs if key}
+            self.known = ' '.join([self.full] + [text for text, _ in pairs]), {key for _, keys in pairs for key in keys}
         return self.known
 
 
@@ -110,6 +110,7 @@ class SpecFile:
         self.scope = Scope()
         self.definitions = {}
         self.owner = {}  # of a constructor or a field: its data or record
+        self.constructors = {}
         for chunk in self.chunks(path.read_text()):
             self.take(chunk)
 
@@ -143,12 +144,15 @@ class SpecFile:
         words = ('pub', 'unfoldable', 'abbrev', 'record', 'data')
         at = next(i for i, token in enumerate(tokens) if token not in words)
         name, kind = tokens[at], tokens[at - 1] if at else ''
-        if name in self.definitions or kind not in ('record', 'data') and tokens[at + 1] not in (':', '{'):
+        is_operator = '_' in name and '«' not in name
+        if name in self.definitions or is_operator or kind not in ('record', 'data') and tokens[at + 1] not in (':', '{'):
             raise Unreadable(f'{self.name}: the declaration of {name} is not understood')
         plain = tokens[at + 1:] == [':', 'Type', '0'] or tokens[at + 1:at + 5] == [':', 'Type', '0', 'where']
         self.definitions[name] = Definition(f'{self.name}:{name}', list(tokens), self, kind, plain)
         if kind in ('record', 'data'):
             self.owner.update({member: name for member in self.members(tokens, name)})
+        if kind == 'data':
+            self.constructors.update({member: name for member in self.members(tokens, name)})
 
     def members(self, tokens, name):
         """The names before a colon at the top of the part behind `where`."""
@@ -162,11 +166,12 @@ class SpecFile:
         return names
 
     def resolve(self, token):
-        """(text, key) of a token; key is (file, name) of what it names in this project, or None."""
-        name = self.owner.get(token, token)
-        if name in self.definitions:
-            return f'{self.name}:{token}', (self.name, name)
-        return imported(self.scope, token)
+        """(text, keys) of a token; a key is (file, name) of what it names in this project. A name with two meanings has both."""
+        text, keys = imported(self.scope, token)
+        name = self.constructors.get(token, token)
+        if name not in self.definitions:
+            return text, keys
+        return (f'{text}|' if keys else '') + f'{self.name}:{token}', keys + [(self.name, name)]
 
 
 class SourceFile:
@@ -204,30 +209,30 @@ class SourceFile:
         return self.tokens[at:end + 1]
 
     def resolve(self, token):
-        """(text, key) of a token of a declaration: only what this project declares is followed."""
+        """(text, keys) of a token of a declaration: only what this project declares is followed."""
         if token in self.definitions:
-            return f'{self.name}:{token}', (self.name, token)
+            return f'{self.name}:{token}', [(self.name, token)]
         path = self.uses.get(token, token)
-        return (path, ('path', self.crate, path)) if '::' in path else (token, None)
+        return (path, [('path', self.crate, path)]) if '::' in path else (token, [])
 
 
 def imported(scope, token):
-    """(text, key) of a token by the `use` lines alone."""
+    """(text, keys) of a token by the `use` lines alone."""
     found = scope.find(token)
     if token.startswith('.') or not found:
-        return token, None
+        return token, []
     path, name = found
     inside = CRATE_PATH.match(path)
     if not inside:
-        return f'{path}.{name}', ('elsewhere', path) if path.startswith('Rattle·') else None
+        return f'{path}.{name}', [('elsewhere', path)] if path.startswith('Rattle·') else []
     crate, rest = inside.groups()
     parts = rest.split('.')
     if parts[0] != 'declared':
         file = f'{crate}/specs/{"/".join(parts)}.antt'
-        return f'{file}:{name}', (file, name)
+        return f'{file}:{name}', [(file, name)]
     declared = [part for part in parts[1:] if part != 'the-variants']
     file = f'{crate}/src/{"/".join(declared[:-1]) or "lib"}.rt'
-    return f'{file}:{declared[-1]}:{name}', (file, declared[-1])
+    return f'{file}:{declared[-1]}:{name}', [(file, declared[-1])]
 
 
 class Tree:

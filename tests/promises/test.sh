@@ -52,6 +52,7 @@ right() {
 list=tests/promises/list.txt
 demand='(reassembly/specs/Demand3.antt:Demanded, reassembly::fragment demand)'
 hears='(initialisation/specs/Theorems.antt:Hears, initialisation::hear_bst hears)'
+cases='(apdu/specs/SoundCases.antt:SoundCasesHold, must-fail apdu/must-fail/ids_by_iid.edit)'
 otherwise='it reads otherwise than the list knows'
 
 # the five of the task
@@ -75,7 +76,11 @@ wrong 'field of a record' crates/reassembly/specs/Demand3.antt '/pub is-sound :/
 wrong 'statement that nothing holds' crates/slots/specs/Slots.antt '$a unfoldable pub Kept : Type 0\nKept = Table' 'slots/specs/Slots.antt:Kept is a statement that nothing holds'
 wrong 'contract of a call that no library calls' crates/bench_joining/src/joining.rt 's/⌜ LineTaken .* ⌝/⌜ r ≡ r ⌝/' \
     'clause "ensures" of bench_joining::take_line does not name it'
+wrong 'definition behind a field of the same name' crates/apdu/specs/Sound.antt 's/soundIf (m .«has_ids»)/soundIf (m .«has_iid»)/' "$cases: $otherwise"
 wrong 'row twice' $list '/| reassembly::fragment demand |/p' 'the row stands twice'
+
+rm "$work/crates/apdu/must-fail/ids_by_iid.edit" && edited=crates/apdu/must-fail/ids_by_iid.edit
+told 'edit deleted' "$cases: there is no edit apdu/must-fail/ids_by_iid.edit" 1
 
 # what must not be noticed
 right 'comment' crates/reassembly/specs/Demand3.antt 's/^-- every run meets it/-- every run does/'
