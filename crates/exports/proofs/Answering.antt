@@ -23,7 +23,7 @@ use Rattle.reassembly.specs.declared.FragmentAnswer.{FragmentAnswer}
 use Rattle.reassembly.specs.declared.FragmentAnswer.the-variants as fragment
 use Rattle.reassembly.specs.declared.FragmentResult.{FragmentResult}
 use Rattle.reassembly.specs.Checks.{fragmentIn, payloadOf, fragmentChecks}
-use Rattle.reassembly.specs.Engine.{Taken, held, whole, Outcome, slotFor, factsIn, fragmentTaken, fragmentRefusal, fragmentOf, fragmentAnswer, FragmentGives}
+use Rattle.reassembly.specs.Engine.{Taken, held, whole, Outcome, slotFor, factsIn, changeTaken, fragmentTaken, fragmentRefusal, fragmentOf, fragmentAnswer, FragmentGives}
 use Rattle.reassembly.proofs.Passed.{first-clear, passed, valid-is}
 use Rattle.words.specs.Answer.{UnpackingAnswer}
 use Rattle.words.proofs.Answers.{unpacking-answer}
@@ -81,7 +81,7 @@ module _ (lid tick : ℕ) (lsdu : List ℕ) (t : Table) (store output : List ℕ
       record { sound = not-f (isSound t) (p .table-sound); long = p .store-long; fits = omega (arith, octets, p .fits) }
 
   taken-small : Clear → Small (taken .answer)
-  unfolding taken fragmentTaken
+  unfolding taken changeTaken fragmentTaken
   taken-small c = go (fragmentIn lsdu .last)
     where
       slot-small : slotFor lid (fragmentIn lsdu .number) t .held ≤ 512
@@ -108,7 +108,7 @@ module _ (lid tick : ℕ) (lsdu : List ℕ) (t : Table) (store output : List ℕ
       go false e = (e, number-small)
 
   taken-accepted : (a : Answer Taken) → taken .answer ≡ a → (n : ℕ) → a ≡ refused n → ⊥
-  unfolding taken fragmentTaken
+  unfolding taken changeTaken fragmentTaken
   taken-accepted a e n f = go (fragmentIn lsdu .last) e
     where
       go : (b : Bool) → fragmentTaken b (eqb (fragmentIn lsdu .counter) 0) lid (fragmentIn lsdu .number) tick (payloadOf lsdu) t store output .answer ≡ a → ⊥

@@ -15,7 +15,8 @@ use Rattle.reassembly.specs.declared.FragmentAnswer.{FragmentAnswer}
 use Rattle.reassembly.specs.declared.FragmentResult.{FragmentResult}
 use Rattle.reassembly.specs.declared.FragmentAnswer.the-variants as answer
 use Rattle.reassembly.specs.declared.Change.{Change}
-use Rattle.reassembly.specs.Engine.{changedFor, resultOf, FragmentGives}
+use Rattle.reassembly.specs.Engine.{changedFor, changedBy, ChangeGives, FragmentGives}
+use Rattle.reassembly.proofs.CallLaws.{change-gives}
 use Rattle.words.specs.TableWords.{tableIn, tableAfter, UnpackingTable, OtherTableLength}
 use Rattle.words.proofs.TableLaws.{unpacking-table, other-table-length, eight-in}
 use Rattle.exports.specs.Fragments.{keptWords, isTaken, fragmentNumber, FragmentSays, FragmentExported, isSwept, sweepNumber, SweepSays, SweepExported, ExpiryExported, ReleaseExported}
@@ -95,12 +96,12 @@ kept-change (answer.Whole octets dropped) before after words = refl
 kept-change (answer.Refused number) before after words = refl
 
 pub fragment-joined : (lid tick : ℕ) (lsdu words store output words' store' output' : List ℕ) (table : Table) (c : Change) (taken : Bool)
-    → table ≡ tableIn words → FragmentGives lid tick lsdu table store output (resultOf table c) store' output' → taken ≡ isTaken (c .answer)
+    → table ≡ tableIn words → ChangeGives lid tick lsdu table store output c store' output' → taken ≡ isTaken (c .answer)
     → words' ≡ keptChange taken (c .index) (c .slot) words → FragmentPut lid tick lsdu words store output (c .answer) words' store' output'
 fragment-joined lid tick lsdu words store output words' store' output' table c taken t g k w =
     let after = tableOf (set (tableIn words .slots) (c .index) (c .slot)) in
-    fragment-put lid tick lsdu words store output store' output' (resultOf (tableIn words) c)
-    (subst (λ (x : Table). FragmentGives lid tick lsdu x store output (resultOf x c) store' output') t g) words'
+    fragment-put lid tick lsdu words store output store' output' (record { answer = c .answer; table = changedBy (tableIn words) c })
+    (change-gives c (subst (λ (x : Table). ChangeGives lid tick lsdu x store output c store' output') t g) refl) words'
     (w ∙ ap (λ (b : Bool). keptTable b after words) k ∙ kept-change (c .answer) (tableIn words) after words)
 
 pub fragment-exported : (lid tick : ℕ) (lsdu words store output : List ℕ) (r : ℕ) (words' store' output' : List ℕ) (x : FragmentAnswer)

@@ -1,5 +1,5 @@
 -- An accepted fragment: from what the callees of `accept` give to the definition.
-use mathlib.Core.Path.{_≡_, sym, ap, _∙_}
+use mathlib.Core.Path.{_≡_, refl, sym, ap, _∙_}
 use mathlib.Core.Bool.{Bool, true, false}
 use mathlib.Core.List.{List, _++_}
 use Prim.Native.Nat.{ℕ, _+_, _-_, _≤_}
@@ -8,12 +8,13 @@ use lib.ListN.{length, take, drop, length-append, length-drop}
 use lib.Seq.{paste, take-paste, drop-paste, take-all, take-length, drop-drop, length-take-le}
 use Rattle.refusals.specs.Check.{pick}
 use Rattle.slots.specs.declared.Slot.{Slot}
-use Rattle.slots.specs.Slots.{free, isBusy}
+use Rattle.slots.specs.declared.Table.{Table}
+use Rattle.slots.specs.Slots.{free, isBusy, indexOf, lowestFree}
 use Rattle.reassembly.specs.declared.Arrival.{Arrival}
 use Rattle.reassembly.specs.declared.Change.{Change}
 use Rattle.reassembly.specs.declared.FragmentAnswer.the-variants.{Held, Whole}
-use Rattle.reassembly.specs.Engine.{putAt, partAt, fragmentTaken}
-use Rattle.reassembly.specs.Accept.{DeliverAsks, DeliverGives, KeepAsks, KeepGives, AcceptAsks, outcomeOf, AcceptGives}
+use Rattle.reassembly.specs.Engine.{putAt, partAt, slotFor, changeTaken, fragmentTaken}
+use Rattle.reassembly.specs.Accept.{DeliverAsks, DeliverGives, KeepAsks, KeepGives, AcceptAsks, Found, AcceptGives}
 
 -- ---- copies
 
@@ -63,35 +64,42 @@ module _ {a : Arrival} {slot : Slot} {lowest : ℕ} {payload store output : List
 
 -- ---- what they give
 
+-- what the code finds, of a table that has the pair's slot there
+module _ {a : Arrival} {slot : Slot} {lowest : ℕ} {t : Table} (f : Found a slot lowest t) where
+  before-is : {before : ℕ} → before ≡ pick (a .begins) 0 (slot .held) → before ≡ pick (a .begins) 0 (slotFor (a .lid) (a .number) t .held)
+  before-is b = b ∙ ap (λ (s : Slot). pick (a .begins) 0 (s .held)) (f .slot-is)
+
+  dropped-is : {dropped : ℕ} → dropped ≡ pick (a .begins) (slot .held) 0 → dropped ≡ pick (a .begins) (slotFor (a .lid) (a .number) t .held) 0
+  dropped-is d = d ∙ ap (λ (s : Slot). pick (a .begins) (s .held) 0) (f .slot-is)
+
+  taken-is : {taken : ℕ} → taken ≡ pick (isBusy slot) (a .index) lowest
+      → taken ≡ pick (isBusy (slotFor (a .lid) (a .number) t)) (indexOf (a .lid) (a .number) (t .slots)) (lowestFree t)
+  taken-is e = e ∙ λ k. pick (isBusy (f .slot-is k)) (f .index-is k) (f .lowest-is k)
+
 module _ {a : Arrival} {slot : Slot} {lowest before dropped : ℕ} {payload store output : List ℕ} {r : Change}
     (b : before ≡ pick (a .begins) 0 (slot .held)) (d : dropped ≡ pick (a .begins) (slot .held) 0) where
   pub deliver-gives : {output' : List ℕ} → a .last ≡ true → DeliverGives (a .index) before dropped payload store output r output'
       → AcceptGives a slot lowest payload store output r store output'
-  unfolding fragmentTaken
+  unfolding changeTaken fragmentTaken
   deliver-gives l h = record {
-    outcome-is = λ t found at low.
-        let b' = b ∙ ap (λ (s : Slot). pick (a .begins) 0 (s .held)) at in
-        let d' = d ∙ ap (λ (s : Slot). pick (a .begins) (s .held) 0) at in
-        rw l
-        ((λ k. outcomeOf (h .change-is k) t store (h .output-is k))
-        ∙ λ k. outcomeOf (record { answer = Whole (b' k + length payload) (d' k); slot = free; index = found k }) t store
-        (putAt output 0 (take (b' k) (drop (partAt (found k)) store) ++ payload)));
+    change-is = λ t f. h .change-is
+        ∙ rw l (λ k. record { answer = Whole (before-is f b k + length payload) (dropped-is f d k); slot = free; index = f .index-is k });
+    store-is = λ t f. rw l refl;
+    output-is = λ t f. h .output-is
+        ∙ rw l (λ k. putAt output 0 (take (before-is f b k) (drop (partAt (f .index-is k)) store) ++ payload));
   }
 
   pub keep-gives : {taken next tick : ℕ} {store' : List ℕ} → a .last ≡ false → taken ≡ pick (isBusy slot) (a .index) lowest
       → next ≡ pick (a .begins) 1 (slot .next + 1) → tick ≡ pick (a .begins) (a .tick) (slot .tick)
       → KeepGives taken (record { lid = a .lid; number = a .number; next = next; held = before + length payload; tick = tick }) before dropped payload store r store'
       → AcceptGives a slot lowest payload store output r store' output
-  unfolding fragmentTaken
+  unfolding changeTaken fragmentTaken
   keep-gives l e n c h = record {
-    outcome-is = λ t found at low.
-        let b' = b ∙ ap (λ (s : Slot). pick (a .begins) 0 (s .held)) at in
-        let d' = d ∙ ap (λ (s : Slot). pick (a .begins) (s .held) 0) at in
-        let e' = e ∙ λ k. pick (isBusy (at k)) (found k) (low k) in
-        let n' = n ∙ ap (λ (s : Slot). pick (a .begins) 1 (s .next + 1)) at in
-        let c' = c ∙ ap (λ (s : Slot). pick (a .begins) (a .tick) (s .tick)) at in
-        let slot' : _≡_ {A = Slot} _ _ = λ k. record { lid = a .lid; number = a .number; next = n' k; held = b' k + length payload; tick = c' k } in
-        rw l
-        ((λ k. outcomeOf (h .change-is k) t (h .store-is k) output)
-        ∙ λ k. outcomeOf (record { answer = Held (b' k + length payload) (d' k); slot = slot' k; index = e' k }) t (putAt store (partAt (e' k) + b' k) payload) output);
+    change-is = λ t f.
+        let n' = n ∙ ap (λ (s : Slot). pick (a .begins) 1 (s .next + 1)) (f .slot-is) in
+        let c' = c ∙ ap (λ (s : Slot). pick (a .begins) (a .tick) (s .tick)) (f .slot-is) in
+        let slot' : _≡_ {A = Slot} _ _ = λ k. record { lid = a .lid; number = a .number; next = n' k; held = before-is f b k + length payload; tick = c' k } in
+        h .change-is ∙ rw l (λ k. record { answer = Held (before-is f b k + length payload) (dropped-is f d k); slot = slot' k; index = taken-is f e k });
+    store-is = λ t f. h .store-is ∙ rw l (λ k. putAt store (partAt (taken-is f e k) + before-is f b k) payload);
+    output-is = λ t f. rw l refl;
   }

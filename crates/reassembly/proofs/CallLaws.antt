@@ -6,16 +6,16 @@ use mathlib.Core.List.{List, [], _∷_, _++_}
 use Prim.Native.Nat.{ℕ, suc, _+_, _-_, _*_, _≤_, _<_}
 use native.Mathlib.Omega.{arith}
 use native.Mathlib.Nat.{eq-or-lt-of-le}
-use lib.ListN.{length, getD, take, drop, set, length-drop, List·getD-eq-default}
+use lib.ListN.{length, getD, take, drop, length-drop, List·getD-eq-default}
 use lib.Seq.{take-all}
 use lib.Count.{ones}
 use lib.Dec.{eqb}
 use borrow.Author.Tests.{eq-eqb, ne-eqb, leb-false}
-use Rattle.refusals.specs.Check.{pick, Check, firstOf, Answer, refused, accepted}
+use Rattle.refusals.specs.Check.{pick, Check, firstOf, refused}
 use Rattle.header.specs.Header.{headerLength}
 use Rattle.slots.specs.declared.Slot.{Slot}
 use Rattle.slots.specs.declared.Table.{Table}
-use Rattle.slots.specs.Slots.{slotCount, free, isBusy, bitOf, indexOf, lowestFree, tableOf, isSound}
+use Rattle.slots.specs.Slots.{slotCount, free, isBusy, bitOf, indexOf, lowestFree, isSound}
 use Rattle.slots.specs.Model.{countBusy, firstFree}
 use Rattle.slots.proofs.Tests.{not-f}
 use Rattle.slots.proofs.LookupLaws.{index-le}
@@ -26,10 +26,10 @@ use Rattle.reassembly.specs.declared.Facts.{Facts}
 use Rattle.reassembly.specs.declared.Arrival.{Arrival}
 use Rattle.reassembly.specs.declared.Change.{Change}
 use Rattle.reassembly.specs.declared.FragmentAnswer.{FragmentAnswer}
-use Rattle.reassembly.specs.declared.FragmentAnswer.the-variants.{Held, Whole, Refused}
+use Rattle.reassembly.specs.declared.FragmentAnswer.the-variants.{Refused}
 use Rattle.reassembly.specs.Checks.{fragmentIn, payloadOf, lsduChecks, headerChecks, pairChecks}
-use Rattle.reassembly.specs.Engine.{Outcome, Taken, slotFor, factsFrom, factsIn, fragmentRefusal, fragmentTaken, fragmentOf, fragmentAnswer, changedFor, changedBy, resultOf, FragmentGives}
-use Rattle.reassembly.specs.Accept.{AcceptAsks, outcomeOf, AcceptGives}
+use Rattle.reassembly.specs.Engine.{slotFor, factsFrom, factsIn, fragmentRefusal, changeTaken, fragmentTaken, fragmentOf, changeOf, fragmentAnswer, changedFor, changedBy, ChangeGives, FragmentGives}
+use Rattle.reassembly.specs.Accept.{AcceptAsks, AcceptGives}
 use Rattle.reassembly.proofs.Joins.{lowest-is}
 use Rattle.reassembly.proofs.Passed.{Numbered, first-append, Passed, passed, valid-is, valid-refusal}
 use Rattle.reassembly.proofs.Headed.{header-in, payload-long}
@@ -54,23 +54,6 @@ module _ (slots : List Slot) (i : ℕ) (n : length slots ≡ 8) (le : i ≤ 8) w
 
   held-in : getD slots i free .held ≤ 512 → 512 * i + getD slots i free .held ≤ 4096
   held-in h = ⊎-elim (λ g. omega (arith, ap (λ (s : Slot). s .held) (List·getD-eq-default slots free {n = i} (omega arith)))) (λ g. omega arith) (eq-or-lt-of-le le)
-
--- ---- what is accepted changes its slot
-
-abbrev isAccepted : Answer Taken → Bool
-isAccepted (accepted x) = true
-isAccepted (refused n) = false
-
-taken-accepts : (last begins : Bool) (lid number tick : ℕ) (payload : List ℕ) (t : Table) (store output : List ℕ) → isAccepted (fragmentTaken last begins lid number tick payload t store output .answer) ≡ true
-unfolding fragmentTaken
-taken-accepts true begins lid number tick payload t store output = refl
-taken-accepts false begins lid number tick payload t store output = refl
-
-taken-changes : (a : FragmentAnswer) (before after : Table) → isAccepted (fragmentAnswer a) ≡ true → changedFor a before after ≡ after
-unfolding changedFor
-taken-changes (Held octets dropped) before after h = refl
-taken-changes (Whole octets dropped) before after h = refl
-taken-changes (Refused n) before after h = absurd (false≢true h)
 
 abbrev pub arrivalOf : ℕ → ℕ → FragmentFields → ℕ → Arrival
 arrivalOf lid tick f index = record { lid = lid; number = f .number; tick = tick; last = f .last; begins = eqb (f .counter) 0; index = index }
@@ -118,21 +101,23 @@ module _ {lid : ℕ} {lsdu : List ℕ} {t : Table} {store output : List ℕ} whe
 
   -- ---- refusals
 
-  pub refusal-gives : {tick n : ℕ} (r : Change) → number lid lsdu t store output ≡ n → (n ≡ 0 → ⊥) → r .answer ≡ Refused n
-      → FragmentGives lid tick lsdu t store output (resultOf t r) store output
-  unfolding fragmentOf changedFor
+  pub refusal-gives : {tick n : ℕ} (r : Change) → number lid lsdu t store output ≡ n → (n ≡ 0 → ⊥) → r ≡ record { answer = Refused n; slot = free; index = slotCount }
+      → ChangeGives lid tick lsdu t store output r store output
+  unfolding changeOf fragmentOf
   refusal-gives r e z h =
       let q = ne-eqb (number lid lsdu t store output) 0 (λ k. z (sym e ∙ k)) in
       record {
-        answer-is = rw q (ap fragmentAnswer h ∙ ap (λ (k : ℕ). fragmentAnswer (Refused k)) (sym e));
-        table-is = rw q (ap (λ (a : FragmentAnswer). changedFor a t (tableOf (set (t .slots) (r .index) (r .slot)))) h);
+        change-is = rw q (h ∙ ap none (sym e));
         store-is = rw q;
         output-is = rw q;
       }
+    where
+      none : ℕ → Change
+      none k = record { answer = Refused k; slot = free; index = slotCount }
 
   pub early-gives : {tick early : ℕ} {fine : Bool} (r : Change) → fine ≡ isSound t
       → early ≡ firstOf (early-list lid lsdu t store output fine) → (early ≡ 0 → ⊥)
-      → r .answer ≡ Refused early → FragmentGives lid tick lsdu t store output (resultOf t r) store output
+      → r ≡ record { answer = Refused early; slot = free; index = slotCount } → ChangeGives lid tick lsdu t store output r store output
   early-gives {early = early} r sound first z h =
       let e = first ∙ ap (λ (b : Bool). firstOf (early-list lid lsdu t store output b)) sound in
       refusal-gives r (by-lists lid lsdu t store output ∙ rw (sym e, ne-eqb early 0 z)) z h
@@ -189,26 +174,53 @@ module _ {lid : ℕ} {lsdu : List ℕ} {t : Table} {store output : List ℕ} whe
 
     pub gives : {tick lowest : ℕ} {r : Change} {store' output' : List ℕ} → lowest ≡ lowestFree t
         → AcceptGives (arrivalOf lid tick f index) slot lowest (tailOf lsdu (f .octets)) store output r store' output'
-        → FragmentGives lid tick lsdu t store output (resultOf t r) store' output'
-    unfolding fragmentOf
+        → ChangeGives lid tick lsdu t store output r store' output'
+    unfolding changeOf fragmentOf
     gives {tick = tick} {r = r} {store' = store'} {output' = output'} low g =
         let moved = coe 0 1 (k. AcceptGives (arrivalOf lid tick (l .fields k) (l .found k)) (l .read k) (low k) (tail-is k) store output r store' output') g in
         let none = eq-eqb (number lid lsdu t store output) 0 (l .refusal ∙ no-late) in
-        let m = moved .outcome-is t refl refl refl in
-        let fine : isAccepted (fragmentAnswer (r .answer)) ≡ true = ap (λ (o : Outcome). isAccepted (o .answer)) m ∙ taken-accepts _ _ _ _ _ _ _ _ _ in
-        let h : outcomeOf r t store' output' ≡ fragmentOf lid tick lsdu t store output = rw none m in
         record {
-          answer-is = ap (λ (o : Outcome). o .answer) h;
-          table-is = taken-changes (r .answer) t (tableOf (set (t .slots) (r .index) (r .slot))) fine ∙ ap (λ (o : Outcome). o .table) h;
-          store-is = ap (λ (o : Outcome). o .store) h;
-          output-is = ap (λ (o : Outcome). o .output) h;
+          change-is = rw none (moved .change-is t (record { index-is = refl; slot-is = refl; lowest-is = refl }));
+          store-is = rw none (moved .store-is t (record { index-is = refl; slot-is = refl; lowest-is = refl }));
+          output-is = rw none (moved .output-is t (record { index-is = refl; slot-is = refl; lowest-is = refl }));
         }
+
+-- ---- the change, made in the table
 
 -- the table after a change, by the answer
 pub changed-as : {a x : FragmentAnswer} (before after : Table) {r : Table} → a ≡ x → r ≡ changedFor x before after → r ≡ changedFor a before after
 changed-as before after e h = rw e h
 
-pub changed-gives : {lid tick : ℕ} {lsdu : List ℕ} {t : Table} {store output : List ℕ} (c : Change) {after : Table} {store' output' : List ℕ}
-    → FragmentGives lid tick lsdu t store output (resultOf t c) store' output' → after ≡ changedBy t c
+-- the change that a call tells is the one that the call makes
+change-makes : (lid tick : ℕ) (lsdu : List ℕ) (t : Table) (store output : List ℕ)
+    → let c = changeOf lid tick lsdu t (length store) (length output) in
+    let o = fragmentOf lid tick lsdu t store output in
+    (fragmentAnswer (c .answer) ≡ o .answer) × (changedBy t c ≡ o .table)
+unfolding changeOf fragmentOf changeTaken fragmentTaken changedFor
+change-makes lid tick lsdu t store output = go (eqb n 0) (fragmentIn lsdu .last)
+  where
+    n : ℕ
+    n = fragmentRefusal lid lsdu t (length store) (length output)
+
+    begins : Bool
+    begins = eqb (fragmentIn lsdu .counter) 0
+
+    go : (b last : Bool)
+        → let c = pick b (changeTaken last begins lid (fragmentIn lsdu .number) tick (length (payloadOf lsdu)) t) (record { answer = Refused n; slot = free; index = slotCount }) in
+        let o = pick b (fragmentTaken last begins lid (fragmentIn lsdu .number) tick (payloadOf lsdu) t store output) (record { answer = refused n; table = t; store = store; output = output }) in
+        (fragmentAnswer (c .answer) ≡ o .answer) × (changedBy t c ≡ o .table)
+    go true true = (refl, refl)
+    go true false = (refl, refl)
+    go false last = (refl, refl)
+
+pub change-gives : {lid tick : ℕ} {lsdu : List ℕ} {t : Table} {store output : List ℕ} (c : Change) {after : Table} {store' output' : List ℕ}
+    → ChangeGives lid tick lsdu t store output c store' output' → after ≡ changedBy t c
     → FragmentGives lid tick lsdu t store output (record { answer = c .answer; table = after }) store' output'
-changed-gives c g e = record { answer-is = g .answer-is; table-is = e ∙ g .table-is; store-is = g .store-is; output-is = g .output-is }
+change-gives {lid} {tick} {lsdu} {t} {store} {output} c g e =
+    let m = change-makes lid tick lsdu t store output in
+    record {
+      answer-is = ap (λ (x : Change). fragmentAnswer (x .answer)) (g .change-is) ∙ m .0;
+      table-is = e ∙ ap (changedBy t) (g .change-is) ∙ m .1;
+      store-is = g .store-is;
+      output-is = g .output-is;
+    }

@@ -15,7 +15,7 @@ use Rattle.slots.specs.Model.{soundSlot, countBusy, firstFree}
 use Rattle.slots.proofs.WordLaws.{trailing-word}
 use lib.Count.{trailingZeros}
 use Rattle.reassembly.specs.Ledger.{Message, Report, dropping, delivering, After, those, joined, octetsOf, ofPair, keptFor, joining, allBut}
-use Rattle.reassembly.specs.Engine.{Outcome, fragmentTaken}
+use Rattle.reassembly.specs.Engine.{Outcome, changeTaken, fragmentTaken}
 use Rattle.reassembly.specs.Runs.{fragmentReport}
 use Rattle.reassembly.proofs.Perm.{Perm, skip, trans, perm-those}
 use Rattle.reassembly.proofs.Views.{views, viewIn, Same, those-map}
@@ -114,7 +114,7 @@ module _ (lid number tick : ℕ) (payload : List ℕ) (t : Table) (store output 
 
   pub last-agrees : (begins : Bool) → pick begins 0 (p .held) + length payload ≤ 512 → 512 ≤ length output
       → OutcomeAgrees (fragmentTaken true begins lid number tick payload t store output) (joining true begins lid number tick payload l) (length store)
-  unfolding fragmentTaken joining p at slots k m head-of
+  unfolding changeTaken fragmentTaken joining p at slots k m head-of
   last-agrees begins le room =
       let whole-is = joined-snoc (pick begins [] (m .payloads)) payload in
       let n : pick begins 0 (p .held) + length payload ≡ length (head-of begins ++ payload) = omega (arith, head-long begins, length-append (head-of begins) payload) in
@@ -187,7 +187,7 @@ module _ (lid number tick : ℕ) (payload : List ℕ) (t : Table) (store output 
   pub kept-agrees : (begins : Bool) → pick begins 0 (p .held) + length payload ≤ 512 → pick begins 1 (p .next + 1) ≤ pick begins 0 (p .held) + length payload
       → (begins ≡ false → isBusy p ≡ true) → (isBusy p ≡ false → countBusy slots < 8)
       → OutcomeAgrees (fragmentTaken false begins lid number tick payload t store output) (joining false begins lid number tick payload l) (length store)
-  unfolding fragmentTaken joining p at slots k m spot entry message Same
+  unfolding changeTaken fragmentTaken joining p at slots k m spot entry message Same
   kept-agrees begins le more opens free-one =
       let a = spot-at begins opens free-one in
       let e = entry-view begins opens in

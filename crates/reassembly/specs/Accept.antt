@@ -4,16 +4,16 @@ use mathlib.Core.Path.{_≡_}
 use mathlib.Core.Bool.{false}
 use mathlib.Core.List.{List, _++_}
 use Prim.Native.Nat.{ℕ, _+_, _≤_, _<_}
-use lib.ListN.{length, take, drop, set}
+use lib.ListN.{length, take, drop}
 use Rattle.refusals.specs.Check.{pick}
 use Rattle.slots.specs.declared.Slot.{Slot}
 use Rattle.slots.specs.declared.Table.{Table}
-use Rattle.slots.specs.Slots.{slotCount, slotOctets, free, isBusy, indexOf, lowestFree, tableOf}
+use Rattle.slots.specs.Slots.{slotCount, slotOctets, free, isBusy, indexOf, lowestFree}
 use Rattle.reassembly.specs.declared.Arrival.{Arrival}
 use Rattle.reassembly.specs.declared.Change.{Change}
 use Rattle.reassembly.specs.declared.FragmentAnswer.the-variants.{Held, Whole}
 use Rattle.reassembly.specs.Checks.{storeOctets, outputOctets}
-use Rattle.reassembly.specs.Engine.{Outcome, putAt, partAt, slotFor, fragmentTaken, fragmentAnswer}
+use Rattle.reassembly.specs.Engine.{putAt, partAt, slotFor, changeTaken, fragmentTaken}
 
 -- ---- a last fragment
 
@@ -48,13 +48,17 @@ pub record AcceptAsks (a : Arrival) (slot : Slot) (lowest : ℕ) (payload store 
   pub fits : pick (a .begins) 0 (slot .held) + length payload ≤ slotOctets
   pub slot-in : a .last ≡ false → pick (isBusy slot) (a .index) lowest < slotCount
 
--- what a change of this table comes to
-abbrev pub outcomeOf : Change → Table → (store output : List ℕ) → Outcome
-outcomeOf r table store output =
-    record { answer = fragmentAnswer (r .answer); table = tableOf (set (table .slots) (r .index) (r .slot)); store = store; output = output }
+-- a table that has the pair's slot there, and its lowest free one
+pub record Found (a : Arrival) (slot : Slot) (lowest : ℕ) (table : Table) : Type 0 where
+  pub index-is : a .index ≡ indexOf (a .lid) (a .number) (table .slots)
+  pub slot-is : slot ≡ slotFor (a .lid) (a .number) table
+  pub lowest-is : lowest ≡ lowestFree table
 
--- of each table that has the pair's slot there, and its lowest free one
+-- the change, and store and output afterwards
 pub record AcceptGives (a : Arrival) (slot : Slot) (lowest : ℕ) (payload store output : List ℕ) (r : Change) (store' output' : List ℕ) : Type 0 where
-  pub outcome-is : (table : Table) → a .index ≡ indexOf (a .lid) (a .number) (table .slots) → slot ≡ slotFor (a .lid) (a .number) table
-      → lowest ≡ lowestFree table
-      → outcomeOf r table store' output' ≡ fragmentTaken (a .last) (a .begins) (a .lid) (a .number) (a .tick) payload table store output
+  pub change-is : (table : Table) → Found a slot lowest table
+      → r ≡ changeTaken (a .last) (a .begins) (a .lid) (a .number) (a .tick) (length payload) table
+  pub store-is : (table : Table) → Found a slot lowest table
+      → store' ≡ fragmentTaken (a .last) (a .begins) (a .lid) (a .number) (a .tick) payload table store output .store
+  pub output-is : (table : Table) → Found a slot lowest table
+      → output' ≡ fragmentTaken (a .last) (a .begins) (a .lid) (a .number) (a .tick) payload table store output .output

@@ -1,7 +1,8 @@
 // The fragment call: checks 1 to 12 in their order, then the fragment is taken.
 ghost use mathlib.Core.Path.{_≡_};
+ghost use Rattle.slots.specs.Slots.{slotCount, free};
 ghost use Rattle.reassembly.specs.Checks.{fragmentIn};
-ghost use Rattle.reassembly.specs.Engine.{factsFrom, changedBy, resultOf, FragmentGives};
+ghost use Rattle.reassembly.specs.Engine.{factsFrom, changedBy, ChangeGives, FragmentGives};
 ghost use Rattle.reassembly.specs.Demand3.{Demanded};
 use crate::Arrival;
 use crate::Change;
@@ -50,8 +51,9 @@ fn facts_of(slot: Slot, table: Table) -> Facts
     }
 }
 
+// A refusal changes no slot.
 fn refusal(number: u8) -> Change
-    ensures { λ r. ⌜ r .answer ≡ FragmentAnswer.Refused number ⌝ }
+    ensures { λ r. ⌜ r ≡ record { answer = FragmentAnswer.Refused number; slot = free; index = slotCount } ⌝ }
 {
     Change {
         answer: FragmentAnswer::Refused(number),
@@ -60,8 +62,8 @@ fn refusal(number: u8) -> Change
     }
 }
 
-// One fragment, of which the table is told by the one slot that changes: who keeps the table elsewhere writes that slot alone. Promised are the answer and the
-// table that the change makes, not index and slot by themselves. Store and output are as after `fragment`.
+// One fragment, of which the table is told by the one slot that changes: who keeps the table elsewhere writes that slot alone. Store and output are as after
+// `fragment`.
 pub fn fragment_change(
     lid: u32,
     tick: u32,
@@ -70,7 +72,7 @@ pub fn fragment_change(
     store: &mut [u8],
     output: &mut [u8],
 ) -> Change
-    ensures { λ r. ⌜ FragmentGives lid tick (now (lsdu .entry)) table (now (store .entry)) (now (output .entry)) (resultOf table r) (now (store .exit)) (now (output .exit)) ⌝ }
+    ensures { λ r. ⌜ ChangeGives lid tick (now (lsdu .entry)) table (now (store .entry)) (now (output .entry)) r (now (store .exit)) (now (output .exit)) ⌝ }
 {
     let early = lsdu_refusal(
         store.len(),

@@ -1,7 +1,7 @@
 -- The change, made in the table; demand 3 holds of every run of such calls.
 -- Assumes nothing.
 use Rattle.reassembly.proofs.Theorem.{demanded}
-use Rattle.reassembly.proofs.CallLaws.{changed-gives}
+use Rattle.reassembly.proofs.CallLaws.{change-gives}
 use borrow.Author.Needs.{needs}
 use Rattle.reassembly.proofs.fragment_call.fragment.Statement.{statement}
 use Rattle.reassembly.proofs.fragment_call.fragment.Tie as tie
@@ -19,7 +19,7 @@ same-length-2 : tie.Need-same-length-2
 same-length-2 c = search needs
 
 returns : tie.Need-returns
-returns c = (demanded, changed-gives (c .before .before .before .before .before .fragment-change .result) (c .before .before .before .before .before .fragment-change .ensures) (c .changed .ensures))
+returns c = (demanded, change-gives (c .before .before .before .before .before .fragment-change .result) (c .before .before .before .before .before .fragment-change .ensures) (c .changed .ensures))
 
 pub fragment-spec : {M : Type 1} → statement M
 fragment-spec =
