@@ -3,16 +3,18 @@
 -- Assumes nothing.
 use Prim.Native.Nat.{ℕ, zero, suc, _+_, _≤_}
 use mathlib.Core.Path.{_≡_, refl, ap, sym, _∙_}
-use mathlib.Core.Bool.{Bool, true, not, _&&_}
-use mathlib.Core.List.{List, [], _∷_, append-nil}
+use mathlib.Core.Bool.{Bool, true, false, _&&_}
+use mathlib.Core.List.{List, [], _∷_, _++_, append-nil}
 use native.Mathlib.Omega.{arith}
-use lib.Dec.{eqb, ltb}
+use lib.Dec.{eqb}
 use lib.ListN.{length, take}
 use lib.Seq.{take-take}
 use borrow.Author.Tests.{eqb-true, le-ltb, not-false}
-use Rattle.refusals.specs.Check.{pick, check, firstOf}
+use Rattle.refusals.specs.Check.{pick, firstOf}
 use Rattle.refusals.proofs.Tests.{by-test, first-none, and-true}
 use Rattle.bits.specs.Strings.{isInside, stringAt}
+use Rattle.bits.proofs.Strings.{length-string}
+use Rattle.apdu_format.specs.Writing.{size}
 use Rattle.apdu_format.proofs.Tests.{never, both}
 use Rattle.apdu.specs.declared.lists.Lists.{Lists}
 use Rattle.apdu.specs.declared.records.Message.{Message}
@@ -23,11 +25,21 @@ use Rattle.apdu.specs.Sound.{partFits, partsFit, nested, closes, rowsSound, sou
 use Rattle.apdu_reading.specs.declared.front.Answer.{Answer}
 use Rattle.apdu_reading.specs.declared.front.Answer.the-variants as answer
 use Rattle.apdu_reading.specs.declared.front.Reading.{Reading}
-use Rattle.apdu_reading.specs.Answers.{soundBy, SoundRecord}
+use Rattle.apdu_reading.specs.Answers.{soundBy, SoundRecord, Reads}
+use Rattle.apdu_reading.proofs.Encoded.{record-encodes}
 use Rattle.directory.specs.Directory.{soundDirectory, knownIn, rowOf}
-use Rattle.attributes.specs.Serving.{leastOutput, Attribute, Tag, Reply, Effect, sent, tooLong, exact, getStatus, getting, setFaults, setStatus, setRows, setting, served, carried, byReading, requested, valueOf, valuesIn, rowsOf, getReply}
-use Rattle.attribute_promises.specs.Promises.{Unnamed, holdsExact, Without, namedBy, KeepsRow, RowKept, ProtectedKept, SetGives, SetThenGet}
-use Rattle.attribute_promises.proofs.Kept.{row-kept, unnamed-if, set-then-get}
+use Rattle.attributes.specs.declared.answers.RequestAnswer.{RequestAnswer}
+use Rattle.attributes.specs.Serving.{leastOutput, Attribute, Tag, Reply, replied, Effect, sent, tooLong, exact, getting, setFaults, setStatus, setRows, setting, served, carried, byReading, requested, valueOf, valuesIn, rowsOf, attributesAt, getReply, Answered}
+use Rattle.attributes.proofs.ValueReply.{count-ids}
+use Rattle.attribute_promises.specs.Promises.{LengthKept, Unnamed, holdsExact, Without, namedBy, KeepsRow, RowKept, ProtectedKept, afterwards, SetGives, GetsOne, oneValue, RepliesWith, SetThenGet}
+use Rattle.attribute_promises.proofs.OneEffect.{caseOf, case-of, answered-is, from-answered}
+use Rattle.attribute_promises.proofs.Cases.{firstCheck, by-request}
+use Rattle.attribute_promises.proofs.Repeated.{get-repeats}
+use Rattle.attribute_promises.proofs.Replies.{valuesBy, Fine, sent-fine}
+use Rattle.attribute_promises.proofs.GetValues.{value-fine}
+use Rattle.attribute_promises.proofs.Promises.{sent-reads}
+use Rattle.attribute_promises.proofs.Kept.{row-id, rows-length, fine-among, row-kept, unnamed-if, set-then-get}
+use Rattle.attribute_promises.proofs.Kept.{Fine as FineSet}
 
 -- ---- the values of a SET lie inside the request
 
@@ -73,10 +85,7 @@ module _ (tag : Tag) (s out : List ℕ) where
   abbrev sureOf : SetRequest → Bool
   sureOf m = exact s (tag .credentials) (m .«has_credentials») (m .credentials) (m .«credentials_length»)
 
-  abbrev first : ℕ
-  first = firstOf (check 1 (ltb (length out) leastOutput) ∷ check 26 (not (soundDirectory (length (tag .factory)) (length (tag .writable)) (tag .directory))) ∷ [])
-
-  sound-then : first ≡ 0 → soundDirectory (length (tag .factory)) (length (tag .writable)) (tag .directory) ≡ true
+  sound-then : firstCheck tag out ≡ 0 → soundDirectory (length (tag .factory)) (length (tag .writable)) (tag .directory) ≡ true
   sound-then z = not-false _ (first-none 25 _ [] (first-none 0 _ _ z .1) .0)
 
   no-fault : (m : SetRequest) (attributes : List Attribute) → setStatus tag s m attributes ≡ 0 → firstOf (setFaults (tag .directory) (sureOf m) (take (m .count) attributes)) ≡ 0
@@ -85,18 +94,11 @@ module _ (tag : Tag) (s out : List ℕ) where
 
   module _ (id : ℕ) (k : knownIn id (tag .directory) ≡ true) where
     abbrev Keeps : Effect → Type 0
-    Keeps e = KeepsRow tag id e
+    Keeps e = KeepsRow tag id (e .writable)
 
     sent-keeps : (q : Reply) → Keeps (sent q (tag .writable) out)
     unfolding sent
     sent-keeps q = record { so = refl }
-
-    get-keeps : (m : GetRequest) → Keeps (getting tag s m out)
-    unfolding getting
-    get-keeps m =
-        by-test Keeps (eqb (getStatus tag s m) 0)
-        (λ t. by-test Keeps (tooLong (sent (getReply tag s m) (tag .writable) out .outcome)) (λ u. sent-keeps _) (λ u. sent-keeps _))
-        (λ t. sent-keeps _)
 
     -- what a SET without a fault names does not have the id
     abbrev Spared : SetRequest → List Attribute → Type 0
@@ -133,28 +135,17 @@ module _ (tag : Tag) (s out : List ℕ) where
               row-kept s (tag .directory) (sureOf m) (tag .factory) id k (take (m .count) attributes) (tag .writable) d z (set-fits (length s) m attributes h) (u z))
               (λ t. refl)
 
-      carried-kept : (m : Message) (l : Lists) → sound (length s) m (l .entries) (l .rows) ≡ true → SparedBy m (l .rows) → Keeps (carried tag s m (l .rows) out)
-      unfolding carried sound
-      carried-kept (kind.ActionRequest m) l h u = sent-keeps _
-      carried-kept (kind.ActionResponse m) l h u = record { so = refl }
-      carried-kept (kind.EventRequest m) l h u = record { so = refl }
-      carried-kept (kind.EventResponse m) l h u = record { so = refl }
-      carried-kept (kind.SetRequest m) l h u = set-row-kept m (l .rows) h u
-      carried-kept (kind.SetResponse m) l h u = record { so = refl }
-      carried-kept (kind.GetRequest m) l h u = get-keeps m
-      carried-kept (kind.GetResponse m) l h u = record { so = refl }
-      carried-kept (kind.Bst m) l h u = record { so = refl }
-      carried-kept (kind.Vst m) l h u = record { so = refl }
-
-      answer-kept : (a : Answer) (l : Lists) → soundBy (length s) l a → SparedIn a (l .rows) → Keeps (byReading tag s a (l .rows) out)
-      unfolding byReading soundBy
-      answer-kept (answer.Refused k p) l h u = record { so = refl }
-      answer-kept (answer.Message m) l h u = by-test Keeps (served m) (λ t. carried-kept m l h u) (λ t. record { so = refl })
+    set-spared : (a : Answer) (l : Lists) (m : SetRequest) → a ≡ answer.Message (kind.SetRequest m) → soundBy (length s) l a → SparedIn a (l .rows)
+        → (setRequestSound (length s) m (l .rows) ≡ true) × Spared m (l .rows)
+    unfolding soundBy sound
+    set-spared a l m e h u = (rw e at h, rw e at u)
 
     requested-kept : (r : Reading) → SoundRecord s r → SparedIn (r .answer) (r .lists .rows) → Keeps (requested tag s r out)
-    unfolding requested
     requested-kept r h u =
-        by-test Keeps (eqb first 0) (λ t. answer-kept (sound-then (eqb-true _ _ t)) (r .answer) (r .lists) (h .is) u) (λ t. record { so = refl })
+        by-request tag s out Keeps sent-keeps (λ k. record { so = refl }) (λ k p. record { so = refl }) r
+        (λ t m e.
+        let p = set-spared (r .answer) (r .lists) m e (h .is) u in
+        set-row-kept (sound-then (eqb-true _ _ t)) m (r .lists .rows) (p .0) (p .1))
 
     spared : (a : Answer) (attributes : List Attribute) → Unnamed id (namedBy a attributes) → SparedIn a attributes
     unfolding namedBy
@@ -188,7 +179,7 @@ module _ (tag : Tag) (s out : List ℕ) where
   -- ---- a SET that is carried out
 
   module _ (r : Reading) (a : Attribute) (h : SoundRecord s r) (g : SetGives tag s r out a) where
-    none : first ≡ 0
+    none : firstCheck tag out ≡ 0
     unfolding firstOf
     none = rw (le-ltb (length out) leastOutput (g .room), g .sound)
 
@@ -202,24 +193,98 @@ module _ (tag : Tag) (s out : List ℕ) where
     unfolding soundBy sound
     inside = set-fits (length s) (g .m) (r .lists .rows) (rw (g .is) at (h .is))
 
+    no-fault-listed : firstOf (setFaults (tag .directory) (sureOf (g .m)) (g .before ++ (a ∷ g .behind))) ≡ 0
+    no-fault-listed = ap (λ (l : List Attribute). firstOf (setFaults (tag .directory) (sureOf (g .m)) l)) (sym (g .list)) ∙ no-fault (g .m) (r .lists .rows) (g .fine)
+
+    fine-set : FineSet (tag .directory) (sureOf (g .m)) a
+    fine-set = fine-among (tag .directory) (sureOf (g .m)) a (g .before) (g .behind) no-fault-listed
+
     value-set : valueOf (tag .factory) (requested tag s r out .writable) (rowOf (a .id) (tag .directory)) ≡ stringAt s (a .start) (a .n)
     value-set =
         ap (λ (w : List ℕ). valueOf (tag .factory) w (rowOf (a .id) (tag .directory)))
         (area-set ∙ ap (λ (l : List Attribute). setRows s (tag .directory) l (tag .writable)) (g .list))
-        ∙ set-then-get s (tag .directory) (sureOf (g .m)) (tag .factory) a (g .behind) (g .last) (g .before) (tag .writable) (g .sound)
-        (ap (λ (l : List Attribute). firstOf (setFaults (tag .directory) (sureOf (g .m)) l)) (sym (g .list)) ∙ no-fault (g .m) (r .lists .rows) (g .fine))
+        ∙ set-then-get s (tag .directory) (sureOf (g .m)) (tag .factory) a (g .behind) (g .last) (g .before) (tag .writable) (g .sound) no-fault-listed
         (ap (partsFit (length s)) (sym (g .list)) ∙ inside)
+
+-- ---- a GET of one row
+
+module _ (tag : Tag) (t out : List ℕ) (q : Reading) (reads : Reads t q) (id : ℕ) (m : GetRequest) (g : GetsOne tag t q out id m)
+    (fine : soundDirectory (length (tag .factory)) (length (tag .writable)) (tag .directory) ≡ true) where
+  one : m .count ≡ 1
+  one = sym (count-ids t (m .ids) (m .count)) ∙ ap length (g .ids)
+
+  reply-fine : Fine (getReply tag t m)
+  reply-fine =
+      value-fine tag t m fine (omega (arith, one))
+      (get-repeats t m (q .lists .entries) (q .lists .rows) (record-encodes t q (reads .outcome) (kind.GetRequest m) (g .is) .ranges))
+      one
+
+  outcome-is : sent (getReply tag t m) (tag .writable) out .outcome ≡ replied (size (valuesBy (getReply tag t m)))
+  outcome-is = sent-fine (getReply tag t m) reply-fine (tag .writable) out (g .room)
+
+  not-long : tooLong (sent (getReply tag t m) (tag .writable) out .outcome) ≡ false
+  unfolding tooLong
+  not-long = ap tooLong outcome-is
+
+  get-sent : requested tag t q out ≡ sent (getReply tag t m) (tag .writable) out
+  unfolding requested byReading served carried getting firstOf
+  get-sent = rw (le-ltb (length out) leastOutput (g .room), fine, g .is, g .fine, not-long)
+
+  -- its reply, with the value of the row
+  reply-is : knownIn id (tag .directory) ≡ true → (v : List ℕ) → rowOf id (tag .directory) .length ≡ length v → valueOf (tag .factory) (tag .writable) (rowOf id (tag .directory)) ≡ v
+      → getReply tag t m ≡ oneValue m id v
+  unfolding getReply oneValue rowsOf valuesIn attributesAt
+  reply-is k v l e = rw (g .ids, one, append-nil (valueOf (tag .factory) (tag .writable) (rowOf id (tag .directory))), e, row-id (tag .directory) id k, l)
+
+  get-replies : (v : List ℕ) → getReply tag t m ≡ oneValue m id v → {a : RequestAnswer} {w o : List ℕ} → Answered tag t out a w o → RepliesWith (oneValue m id v) a o
+  unfolding caseOf
+  get-replies v e {a} {w} {o} x =
+      let n = size (valuesBy (getReply tag t m)) in
+      let i = answered-is x q reads ∙ get-sent in
+      record {
+        n = n;
+        is = case-of (a .outcome) (ap (λ (z : Effect). z .outcome) i ∙ outcome-is);
+        reads = rw (← e, ap (λ (z : Effect). z .output) i) (sent-reads (getReply tag t m) (tag .writable) out n outcome-is);
+      }
 
 -- ---- the promises
 
+pub length-kept : LengthKept
+unfolding LengthKept setting sent
+length-kept tag s out a w o x =
+    let r = x .reading in
+    from-answered x r (x .reads) (λ (e : Effect). length (e .writable) ≡ length (tag .writable))
+    (by-request tag s out (λ (e : Effect). length (e .writable) ≡ length (tag .writable)) (λ q. refl) (λ k. refl) (λ k p. refl) r
+    (λ t m e. by-test (λ (z : Effect). length (z .writable) ≡ length (tag .writable)) (m .mode) (λ t. area m (r .lists .rows)) (λ t. area m (r .lists .rows))))
+  where
+    area : (m : SetRequest) (attributes : List Attribute)
+        → length (pick (eqb (setStatus tag s m attributes) 0) (setRows s (tag .directory) (take (m .count) attributes) (tag .writable)) (tag .writable)) ≡ length (tag .writable)
+    area m attributes =
+        by-test (λ (l : List ℕ). length l ≡ length (tag .writable)) (eqb (setStatus tag s m attributes) 0)
+        (λ t. rows-length s (tag .directory) (take (m .count) attributes) (tag .writable))
+        (λ t. refl)
+
 pub row-kept-always : RowKept
 unfolding RowKept
-row-kept-always tag s r out id h k u = requested-kept tag s out id k r h (spared tag s out id k (r .answer) (r .lists .rows) u)
+row-kept-always tag s out a w o x r reads id k u =
+    from-answered x r reads (λ (e : Effect). KeepsRow tag id (e .writable))
+    (requested-kept tag s out id k r (reads .sound) (spared tag s out id k (r .answer) (r .lists .rows) u))
 
 pub protected-kept-always : ProtectedKept
 unfolding ProtectedKept
-protected-kept-always tag s r out id h k p w = requested-kept tag s out id k r h (guarded tag s out id k p (r .answer) (r .lists .rows) w)
+protected-kept-always tag s out a w o x r reads id k p without =
+    from-answered x r reads (λ (e : Effect). KeepsRow tag id (e .writable))
+    (requested-kept tag s out id k r (reads .sound) (guarded tag s out id k p (r .answer) (r .lists .rows) without))
 
 pub set-then-get-always : SetThenGet
-unfolding SetThenGet getReply valuesIn rowsOf
-set-then-get-always tag s r out a h g t get e = rw e (append-nil _ ∙ value-set tag s out r a h g)
+unfolding SetThenGet LengthKept
+set-then-get-always tag s out a w o x r reads at g t out' b w' o' y q reads' m get =
+    let later = afterwards tag w in
+    let d : soundDirectory (length (later .factory)) (length (later .writable)) (later .directory) ≡ true =
+    ap (λ (n : ℕ). soundDirectory (length (tag .factory)) n (tag .directory)) (length-kept tag s out a w o x) ∙ g .sound in
+    let f = fine-set tag s out r at (reads .sound) g in
+    let v = stringAt s (at .start) (at .n) in
+    let e : valueOf (tag .factory) w (rowOf (at .id) (tag .directory)) ≡ v =
+    ap (λ (z : Effect). valueOf (tag .factory) (z .writable) (rowOf (at .id) (tag .directory))) (answered-is x r reads) ∙ value-set tag s out r at (reads .sound) g in
+    get-replies later t out' q reads' (at .id) m get d v
+    (reply-is later t out' q reads' (at .id) m get d (f .known) v (sym (f .whole) ∙ sym (length-string s (at .start) (at .n))) e) y

@@ -1,7 +1,7 @@
 -- The reply with the values of a GET is well formed: its ids and lengths are those of rows of a sound directory, each value stands where its attribute says,
 -- and there are at most 16. It may be too long; writing then says 21, and refuses it with nothing else.
 -- Assumes nothing.
-use Prim.Native.Nat.{ℕ, _+_, _-_, _*_, _^_, _≤_}
+use Prim.Native.Nat.{ℕ, _+_, _-_, _*_, _/_, _^_, _≤_}
 use mathlib.Core.Path.{_≡_, refl, ap, sym, _∙_}
 use mathlib.Core.Bool.{Bool, true, false, _&&_}
 use mathlib.Core.List.{List, [], _∷_, _++_, append-nil}
@@ -17,7 +17,7 @@ use Rattle.apdu_format.specs.Component.{container, rowCount}
 use Rattle.apdu_format.specs.Table.{layoutOf}
 use Rattle.apdu_format.specs.Rules.{shape, checksOf, present, brings, announced, times}
 use Rattle.apdu_format.specs.Reading.{numbersOf, sum, need}
-use Rattle.apdu_format.specs.Writing.{fieldsFit, fits, isValue, size}
+use Rattle.apdu_format.specs.Writing.{fieldsFit, fits, isValue, inRange, size}
 use Rattle.apdu_format.proofs.Tests.{both, never}
 use Rattle.apdu.specs.declared.records.GetRequest.{GetRequest}
 use Rattle.apdu.specs.Values.{num, headValues, rowValues, rowsValues, getResponseValues, valuesOf}
@@ -30,7 +30,7 @@ use Rattle.attributes.specs.Serving.{leastOutput, Tag, replied, noEntries, sent
 use Rattle.attributes.proofs.ValueReply.{total, rows-fit, count-places, count-rows, count-ids, length-values}
 use Rattle.attribute_promises.proofs.Repeated.{Repeats}
 use Rattle.attribute_promises.proofs.Writing.{Writes, one, joined, within, nothing, number, box-written, finished}
-use Rattle.attribute_promises.proofs.Replies.{Leads, begun, valuesBy, sent-formed}
+use Rattle.attribute_promises.proofs.Replies.{Leads, begun, valuesBy, Fine, sent-formed}
 
 -- ---- the rows
 
@@ -106,12 +106,22 @@ module _ (tag : Tag) (s : List ℕ) (m : GetRequest) (fine : soundDirectory (len
       one (rowCount 1) [] (num (m .count)) vs 32 (count-fine (m .count) few) (append-nil _) refl (omega arith) in
       joined c r
 
-  values-formed : wellFormed lent (getReply tag s m .message) noEntries (attributesAt 0 named) ≡ true
-  unfolding getReply wellFormed valuesOf getResponseValues sound getResponseSound rowsSound rowsFit rowsPresent
-  values-formed =
+  values-whole : (inRange (valuesBy (getReply tag s m)) ≡ true) × (size (valuesBy (getReply tag s m)) ≤ (32 + 1040 * m .count) / 8)
+  unfolding getReply valuesOf getResponseValues
+  values-whole =
       let f = finished (joined (begun g (rowCount 1 ∷ []) (num (m .count) ∷ (rowsValues lent (attributesAt 0 named) ++ [])) 7 (1 ∷ 0 ∷ 0 ∷ []) (values-leads (m .«has_iid»))) list-written) in
+      let k : (24 + (8 + 1040 * m .count)) / 8 ≤ (32 + 1040 * m .count) / 8 = omega arith in
+      rw all-places (f .0, omega (arith, k, f .1))
+
+  values-formed : wellFormed (getReply tag s m .lent) (getReply tag s m .message) noEntries (getReply tag s m .attributes) ≡ true
+  unfolding getReply wellFormed sound getResponseSound rowsSound rowsFit rowsPresent
+  values-formed =
       let c : closes (m .count) (attributesAt 0 named) ≡ true = ap (λ (n : ℕ). closes n (attributesAt 0 named)) (sym (count-rows (tag .directory) ids ∙ count-is)) ∙ rows-close 0 named in
-      rw all-places (and-true (f .0) (and-true (and-true (rows-fit (length lent) 0 named within-lent) c) (le-leb (m .count) 32 (omega arith))))
+      and-true (values-whole .0) (rw all-places (and-true (and-true (rows-fit (length lent) 0 named within-lent) c) (le-leb (m .count) 32 (omega arith))))
+
+  -- one value is never too long
+  pub value-fine : m .count ≡ 1 → Fine (getReply tag s m)
+  value-fine one = record { formed = values-formed; short = omega (arith, one, values-whole .1) }
 
   -- it is sent, unless it is too long
   pub values-sent : (w out : List ℕ) → leastOutput ≤ length out → tooLong (sent (getReply tag s m) w out .outcome) ≡ false

@@ -13,7 +13,7 @@ use lib.ListN.{length, take, drop, length-append, length-drop, take-append-drop}
 use lib.Seq.{length-take-le}
 use borrow.Author.Tests.{eq-eqb, ne-eqb, eqb-true, eqb-false, lt-ltb, ltb-true, ltb-false, le-leb, leb-true, not-true, not-false}
 use Rattle.refusals.specs.Check.{firstOf}
-use Rattle.refusals.proofs.Tests.{by-cases, first-none, and-true}
+use Rattle.refusals.proofs.Tests.{by-test, by-cases, first-none, and-true}
 use Rattle.bits.specs.Strings.{isInside, stringAt, copyFits, copyString}
 use Rattle.bits.proofs.Strings.{length-string}
 use Rattle.apdu_format.specs.Component.{octetString}
@@ -47,6 +47,13 @@ module _ (r : Row) (rs : List Row) (id : ℕ) where
   known-later n h =
       let k : ltb (suc (indexOf id rs)) (suc (length rs)) ≡ true = rw (ne-eqb (r .id) id n) at h in
       lt-ltb (indexOf id rs) (length rs) (omega (arith, ltb-true (suc (indexOf id rs)) (suc (length rs)) k))
+
+pub row-id : (rows : List Row) (id : ℕ) → knownIn id rows ≡ true → rowOf id rows .id ≡ id
+row-id [] id k = never (unfold knownIn indexOf in k)
+row-id (r ∷ rs) id k =
+    by-cases (eqb (r .id) id)
+    (λ t. let e = eqb-true (r .id) id t in ap (λ (x : Row). x .id) (row-first r rs id e) ∙ e)
+    (λ t. let n = eqb-false (r .id) id t in ap (λ (x : Row). x .id) (row-later r rs id n) ∙ row-id rs id (known-later r rs id n k))
 
 apart-at : (a : Row) (rs : List Row) (id : ℕ) → apartFrom a rs ≡ true → knownIn id rs ≡ true → clashes a (rowOf id rs) ≡ false
 unfolding apartFrom
@@ -101,12 +108,31 @@ denied-shut : (row : Row) → row .protected ≡ true → denied false row ≡ t
 unfolding denied
 denied-shut row g = rw g
 
+-- ---- the length of the area
+
+row-length : (s : List ℕ) (rows : List Row) (a : Attribute) (w : List ℕ) → length (setRow s rows a w) ≡ length w
+unfolding setRow copyString copyFits
+row-length s rows a w =
+    let at = rowOf (a .id) rows .start in
+    let v = stringAt s (a .start) (a .n) in
+    let inside = isInside (length s) (a .start) (a .n) in
+    by-test (λ (l : List ℕ). length l ≡ length w) (inside && leb (at + a .n) (length w))
+    (λ t.
+    let c = leb-true (at + a .n) (length w) (both inside (leb (at + a .n) (length w)) t .1) in
+    omega (arith, length-append (take at w) (v ++ drop (at + a .n) w), length-append v (drop (at + a .n) w), length-drop (at + a .n) w, length-string s (a .start) (a .n), length-take-le at w (omega (arith, c)), c))
+    (λ t. refl)
+
+pub rows-length : (s : List ℕ) (rows : List Row) (attributes : List Attribute) (w : List ℕ) → length (setRows s rows attributes w) ≡ length w
+unfolding setRows
+rows-length s rows [] w = refl
+rows-length s rows (a ∷ rest) w = rows-length s rows rest (setRow s rows a w) ∙ row-length s rows a w
+
 -- ---- an attribute without a fault
 
 pub record Fine (rows : List Row) (exact : Bool) (a : Attribute) : Type 0 where
-  known : knownIn (a .id) rows ≡ true
+  pub known : knownIn (a .id) rows ≡ true
   pub string : a .kind ≡ octetString
-  whole : a .n ≡ rowOf (a .id) rows .length
+  pub whole : a .n ≡ rowOf (a .id) rows .length
   ours : rowOf (a .id) rows .writable ≡ true
   free : denied exact (rowOf (a .id) rows) ≡ false
 
@@ -129,6 +155,10 @@ module _ (rows : List Row) (exact : Bool) where
         q .1,
       )
 
+  pub fine-among : (a : Attribute) (xs ys : List Attribute) → firstOf (setFaults rows exact (xs ++ (a ∷ ys))) ≡ 0 → Fine rows exact a
+  fine-among a [] ys h = fine-first a ys h .0
+  fine-among a (x ∷ xs) ys h = fine-among a xs ys (fine-first x (xs ++ (a ∷ ys)) h .1)
+
 module _ (s : List ℕ) (rows : List Row) (exact : Bool) (f w : List ℕ) (sound : soundDirectory (length f) (length w) rows ≡ true) (a : Attribute) (fine : Fine rows exact a)
     (inside : partFits (length s) (a .kind) (a .n) (a .start) ≡ true) where
   abbrev target : Row
@@ -140,14 +170,6 @@ module _ (s : List ℕ) (rows : List Row) (exact : Bool) (f w : List ℕ) (sound
       let i : isInside (length s) (a .start) (a .n) ≡ true = rw (fine .string) at inside in
       let k = in-writable (length f) (length w) target (inside-area (length f) (length w) target (sound-row (length f) (length w) rows sound (a .id))) (fine .ours) in
       and-true i (le-leb (target .start + a .n) (length w) (omega (arith, k, fine .whole)))
-
-  same-length : length (setRow s rows a w) ≡ length w
-  unfolding setRow copyString copyFits
-  same-length =
-      let v = stringAt s (a .start) (a .n) in
-      let c = leb-true (target .start + a .n) (length w) (both (isInside (length s) (a .start) (a .n)) (leb (target .start + a .n) (length w)) copy-fits .1) in
-      rw copy-fits
-      (omega (arith, length-append (take (target .start) w) (v ++ drop (target .start + a .n) w), length-append v (drop (target .start + a .n) w), length-drop (target .start + a .n) w, length-string s (a .start) (a .n), length-take-le (target .start) w (omega (arith, c)), c))
 
   set-nothing : a .n ≡ 0 → setRow s rows a w ≡ w
   unfolding setRow copyString stringAt
@@ -195,7 +217,7 @@ module _ (s : List ℕ) (rows : List Row) (exact : Bool) (f : List ℕ) (id : �
   row-kept (a ∷ rest) w h z i u =
       let p = fine-first rows exact a rest z in
       let q = both (partFits (length s) (a .kind) (a .n) (a .start)) (partsFit (length s) rest) i in
-      let l : length w ≡ length (setRow s rows a w) = sym (same-length s rows exact f w h a (p .0) (q .0)) in
+      let l : length w ≡ length (setRow s rows a w) = sym (row-length s rows a w) in
       let g : soundDirectory (length f) (length (setRow s rows a w)) rows ≡ true = ap (λ (n : ℕ). soundDirectory (length f) n rows) (sym l) ∙ h in
       row-kept rest (setRow s rows a w) g (p .1) (q .1) (u .1) ∙ one-kept s rows exact f w h a (p .0) (q .0) id (u .0) k
 
@@ -220,12 +242,12 @@ module _ (s : List ℕ) (rows : List Row) (exact : Bool) (f : List ℕ) (a : Att
       let p = fine-first rows exact a ys z in
       let q = both (partFits (length s) (a .kind) (a .n) (a .start)) (partsFit (length s) ys) i in
       let g : soundDirectory (length f) (length (setRow s rows a w)) rows ≡ true =
-      ap (λ (n : ℕ). soundDirectory (length f) n rows) (same-length s rows exact f w h a (p .0) (q .0)) ∙ h in
+      ap (λ (n : ℕ). soundDirectory (length f) n rows) (row-length s rows a w) ∙ h in
       row-kept s rows exact f (a .id) (p .0 .known) ys (setRow s rows a w) g (p .1) (q .1) last
       ∙ set-value s rows a f w (copy-fits s rows exact f w h a (p .0) (q .0)) (p .0 .ours) (p .0 .whole)
   set-then-get (x ∷ xs) w h z i =
       let p = fine-first rows exact x (xs ++ (a ∷ ys)) z in
       let q = both (partFits (length s) (x .kind) (x .n) (x .start)) (partsFit (length s) (xs ++ (a ∷ ys))) i in
       let g : soundDirectory (length f) (length (setRow s rows x w)) rows ≡ true =
-      ap (λ (n : ℕ). soundDirectory (length f) n rows) (same-length s rows exact f w h x (p .0) (q .0)) ∙ h in
+      ap (λ (n : ℕ). soundDirectory (length f) n rows) (row-length s rows x w) ∙ h in
       set-then-get xs (setRow s rows x w) g (p .1) (q .1)

@@ -1,4 +1,6 @@
 pub mod Among
+pub mod OneEffect
+pub mod Cases
 pub mod Promises
 pub mod Kept
 pub mod Afterwards
@@ -9,4 +11,4 @@ pub mod Replies
 pub mod GetValues
 pub mod Refusals
 pub mod RefusesOnly
-pub mod OneEffect
+pub mod Cited

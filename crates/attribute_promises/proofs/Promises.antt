@@ -30,10 +30,12 @@ use Rattle.apdu_writing.specs.Answer.{writeRefusal, writeOutput}
 use Rattle.apdu_writing.proofs.RoundTrip.{written-reads}
 use Rattle.directory.specs.declared.Row.{Row}
 use Rattle.directory.specs.Directory.{knownIn, rowOf, soundDirectory}
-use Rattle.attributes.specs.Serving.{Attribute, Tag, Reply, Outcome, refused, refusedAt, Effect, effect, noEntries, exact, denied, getFault, getFaults, idsFrom, rowsOf, valuesIn, getStatus, setStatus, setRow, valueOf, getReply, sent, tooLong, getting, setting, carried, served, byReading, requested, leastOutput}
-use Rattle.attribute_promises.specs.Promises.{Short, ReadsBack, SameReply, AgreeOpen, holdsExact, Without}
+use Rattle.attributes.specs.Serving.{Attribute, Tag, Reply, Outcome, refused, refusedAt, silent, replied, Effect, effect, noEntries, exact, denied, getFault, getFaults, idsFrom, rowsOf, valuesIn, getStatus, setStatus, setRow, valueOf, getReply, sent, tooLong, getting, setting, carried, served, byReading, requested, toldOf, leastOutput}
+use Rattle.attribute_promises.specs.Promises.{ShortReplies, ReplyRead, ReadsBack, RepliesReadBack, FaultyKeeps, AgreeOpen, holdsExact, Without, ProtectedUnseen}
 use Rattle.attributes.specs.Inside.{tagOf}
 use Rattle.attributes.proofs.ShortReplies.{sent-none, requested-short}
+use Rattle.attribute_promises.proofs.OneEffect.{answer-same, answered-is, from-answered}
+use Rattle.attribute_promises.proofs.Cases.{firstCheck, by-request}
 
 -- ---- a reply that is sent
 
@@ -50,17 +52,46 @@ module _ (q : Reply) (w out : List ℕ) where
       let vs = valuesOf (q .lent) (q .message) noEntries (q .attributes) in
       rw (eq-eqb refusal 0 z) (take-at (octets (size vs) (encode vs)) (drop (size vs) out) n (length-octets (size vs) (encode vs) ∙ e))
 
-  pub sent-reads : ReadsBack q (sent q w out)
-  sent-reads =
-      record {
-        so = λ n h.
-            let k = sent-none q w out n h in
-            rw (front n (k .0) (k .1)) (written-reads (q .lent) (q .message) noEntries (q .attributes) out (k .0));
-      }
+  pub sent-reads : (n : ℕ) → sent q w out .outcome ≡ replied n → ReplyRead q (take n (sent q w out .output))
+  sent-reads n h =
+      let k = sent-none q w out n h in
+      rw (front n (k .0) (k .1)) (written-reads (q .lent) (q .message) noEntries (q .attributes) out (k .0))
+
+  sent-back : (n : ℕ) → sent q w out .outcome ≡ replied n → ReadsBack out n (sent q w out .writable) (sent q w out .output)
+  unfolding sent
+  sent-back n h = record { reply = q; is = ap (λ (z : Outcome). effect z w (sent q w out .output)) (sym h); reads = sent-reads n h }
 
 -- no reply is longer than 512 octets
-pub reply-short : (tag : Tag) (s : List ℕ) (r : Reading) (out : List ℕ) → Short (requested tag s r out)
-reply-short tag s r out = record { so = requested-short tag s out r }
+pub short-replies : ShortReplies
+unfolding ShortReplies toldOf
+short-replies tag s out a w o x n h =
+    from-answered x (x .reading) (x .reads) (λ (e : Effect). e .outcome ≡ replied n → n ≤ 512) (requested-short tag s out (x .reading) n) (ap toldOf h)
+
+module _ (tag : Tag) (s out : List ℕ) (n : ℕ) where
+  abbrev Back : Effect → Type 0
+  Back e = e .outcome ≡ replied n → ReadsBack out n (e .writable) (e .output)
+
+  refused-back : (k : ℕ) → Back (effect (refused k) (tag .writable) out)
+  refused-back k h = let z : _≡_ {A = ℕ} 0 1 = cc in absurd (omega arith)
+
+  refused-at-back : (k p : ℕ) → Back (effect (refusedAt k p) (tag .writable) out)
+  refused-at-back k p h = let z : _≡_ {A = ℕ} 0 1 = cc in absurd (omega arith)
+
+  silent-back : (w : List ℕ) → Back (effect silent w out)
+  silent-back w h = let z : _≡_ {A = ℕ} 0 1 = cc in absurd (omega arith)
+
+  set-back : (m : SetRequest) (attributes : List Attribute) → Back (setting tag s m attributes out)
+  unfolding setting
+  set-back m attributes = by-test Back (m .mode) (λ t. sent-back _ _ out n) (λ t. silent-back _)
+
+-- each reads back as the message that is sent
+pub replies-read-back : RepliesReadBack
+unfolding RepliesReadBack toldOf
+replies-read-back tag s out a w o x n h =
+    let r = x .reading in
+    from-answered x r (x .reads) (Back tag s out n)
+    (by-request tag s out (Back tag s out n) (λ q. sent-back q (tag .writable) out n) (refused-back tag s out n) (refused-at-back tag s out n) r (λ z m e. set-back tag s out n m (r .lists .rows)))
+    (ap toldOf h)
 
 -- ---- a SET with a fault
 
@@ -70,7 +101,18 @@ set-keeps tag s m attributes out n =
     let k : eqb (setStatus tag s m attributes) 0 ≡ false = ne-eqb (setStatus tag s m attributes) 0 n in
     by-test (λ (e : Effect). e .writable ≡ tag .writable) (m .mode) (λ t. rw k) (λ t. rw k)
 
+pub faulty-keeps : FaultyKeeps
+unfolding FaultyKeeps requested byReading served carried
+faulty-keeps tag s out a w o x r reads m e n =
+    from-answered x r reads (λ (z : Effect). z .writable ≡ tag .writable)
+    (by-test (λ (z : Effect). z .writable ≡ tag .writable) (eqb (firstCheck tag out) 0) (λ t. rw e (set-keeps tag s m (r .lists .rows) out n)) (λ t. refl))
+
 -- ---- without the tag's exact credentials
+
+-- the same answer, and the same octets in the output
+pub record SameReply (a b : Effect) : Type 0 where
+  pub outcome : a .outcome ≡ b .outcome
+  pub output : a .output ≡ b .output
 
 open-row : (b : Bool) → (b && true) ≡ false → b ≡ false
 open-row true h = h
@@ -159,6 +201,16 @@ module _ (eid : ℕ) (credentials : List ℕ) (rows : List Row) (f w f' w' : Lis
       by-cases (eqb first 0)
       (λ t. rw (a, b, t) (answer-blind (r .answer) (r .lists .rows) h))
       (λ t. rw (a, b, t) (same-effect (refused first)))
+
+pub protected-unseen : ProtectedUnseen
+unfolding ProtectedUnseen
+protected-unseen eid credentials rows f v f' v' agree k l s out r reads without a b w w' o o' x y =
+    let i = answered-is x r reads in
+    let j = answered-is y r reads in
+    let z = request-blind eid credentials rows f v f' v' agree s out r k l without in (
+      answer-same a b (ap (λ (e : Effect). e .outcome) i ∙ z .outcome ∙ sym (ap (λ (e : Effect). e .outcome) j)),
+      ap (λ (e : Effect). e .output) i ∙ z .output ∙ sym (ap (λ (e : Effect). e .output) j),
+    )
 
 -- ---- what a SET leaves in an area
 

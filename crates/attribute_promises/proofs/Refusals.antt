@@ -3,32 +3,39 @@
 -- Assumes nothing.
 use Prim.Native.Nat.{ℕ, _≤_}
 use mathlib.Core.Path.{_≡_, refl, ap, sym, _∙_}
-use mathlib.Core.Bool.{true, false, not}
-use mathlib.Core.List.{List, [], _∷_}
+use mathlib.Core.Bool.{Bool, true, false}
+use mathlib.Core.List.{List}
 use native.Mathlib.Omega.{arith}
-use lib.Dec.{ltb, eqb}
+use lib.Dec.{eqb}
 use lib.ListN.{length}
 use borrow.Author.Tests.{eqb-true, ltb-false}
-use Rattle.refusals.specs.Check.{check, firstOf}
 use Rattle.refusals.proofs.Tests.{by-test, by-cases, first-none}
-use Rattle.apdu_format.specs.Reading.{readMessage}
 use Rattle.apdu_format.proofs.Tests.{never}
-use Rattle.apdu.specs.declared.records.Message.{Message}
 use Rattle.apdu.specs.declared.records.Message.the-variants as kind
 use Rattle.apdu.specs.declared.records.SetRequest.{SetRequest}
-use Rattle.apdu.specs.declared.records.GetRequest.{GetRequest}
-use Rattle.apdu_reading.specs.declared.front.Answer.{Answer}
-use Rattle.apdu_reading.specs.declared.front.Answer.the-variants as answer
 use Rattle.apdu_reading.specs.declared.front.Reading.{Reading}
-use Rattle.apdu_reading.specs.Answers.{outcomeOf}
+use Rattle.apdu_reading.specs.Answers.{Reads}
 use Rattle.apdu_reading.proofs.Encoded.{record-encodes}
 use Rattle.apdu_writing.specs.Answer.{writeRefusal, answered, writeAnswer, writeOutput}
-use Rattle.directory.specs.Directory.{soundDirectory}
+use Rattle.attributes.specs.declared.answers.RequestOutcome.{RequestOutcome}
 use Rattle.attributes.specs.Serving.{writes as outcomeBy}
-use Rattle.attributes.specs.Serving.{leastOutput, Attribute, Tag, Reply, Outcome, Effect, effect, noEntries, sent, tooLong, getStatus, getReply, getting, setStatus, setReply, setting, served, carried, byReading, requested}
-use Rattle.attribute_promises.specs.Promises.{isRefusal, Unchanged, RefusalKeeps}
+use Rattle.attributes.specs.Serving.{leastOutput, Attribute, Tag, Reply, Outcome, refused, refusedAt, silent, replied, Effect, effect, noEntries, sent, setStatus, setReply, setting, requested, toldOf}
+use Rattle.attribute_promises.specs.Promises.{RefusalKeeps}
+use Rattle.attribute_promises.proofs.OneEffect.{from-answered}
+use Rattle.attribute_promises.proofs.Cases.{firstCheck, by-request}
 use Rattle.attribute_promises.proofs.Repeated.{Repeats, set-repeats}
 use Rattle.attribute_promises.proofs.Replies.{set-fine, sent-fine}
+
+-- a refusal, with a position or without
+unfoldable isRefusal : Outcome → Bool
+isRefusal (refused k) = true
+isRefusal (refusedAt k p) = true
+isRefusal silent = false
+isRefusal (replied n) = false
+
+-- what a refused call leaves
+record Unchanged (tag : Tag) (out : List ℕ) (e : Effect) : Type 0 where
+  so : isRefusal (e .outcome) ≡ true → (e .writable ≡ tag .writable) × (e .output ≡ out)
 
 -- ---- the call
 
@@ -48,13 +55,6 @@ module _ (tag : Tag) (s out : List ℕ) where
   refused-same : (o : Outcome) → Same (effect o (tag .writable) out)
   refused-same o = record { so = λ h. (refl, refl) }
 
-  get-same : (m : GetRequest) → Same (getting tag s m out)
-  unfolding getting
-  get-same m =
-      by-test Same (eqb (getStatus tag s m) 0)
-      (λ t. by-test Same (tooLong (sent (getReply tag s m) (tag .writable) out .outcome)) (λ u. sent-same _) (λ u. sent-same _))
-      (λ t. sent-same _)
-
   module _ (room : leastOutput ≤ length out) (m : SetRequest) (attributes : List Attribute) (g : Repeats (m .eid) (m .«has_iid») (m .iid)) where
     reply-sent : (w : List ℕ) → isRefusal (sent (setReply s m 0) w out .outcome) ≡ false
     unfolding isRefusal
@@ -70,30 +70,15 @@ module _ (tag : Tag) (s out : List ℕ) where
         (λ u. rw u (sent-same (setReply s m (setStatus tag s m attributes)))))
         (λ t. record { so = λ h. never h })
 
-  module _ (r : Reading) (reads : outcomeOf s r ≡ readMessage s) (room : leastOutput ≤ length out) where
-    carried-same : (m : Message) → r .answer ≡ answer.Message m → Same (carried tag s m (r .lists .rows) out)
-    unfolding carried
-    carried-same (kind.ActionRequest m) e = sent-same _
-    carried-same (kind.ActionResponse m) e = refused-same _
-    carried-same (kind.EventRequest m) e = refused-same _
-    carried-same (kind.EventResponse m) e = refused-same _
-    carried-same (kind.SetRequest m) e =
-        set-same room m (r .lists .rows) (set-repeats s m (r .lists .entries) (r .lists .rows) (record-encodes s r reads (kind.SetRequest m) e .ranges))
-    carried-same (kind.SetResponse m) e = refused-same _
-    carried-same (kind.GetRequest m) e = get-same m
-    carried-same (kind.GetResponse m) e = refused-same _
-    carried-same (kind.Bst m) e = refused-same _
-    carried-same (kind.Vst m) e = refused-same _
-
-    answer-same : (a : Answer) → r .answer ≡ a → Same (byReading tag s a (r .lists .rows) out)
-    unfolding byReading
-    answer-same (answer.Refused k p) e = refused-same _
-    answer-same (answer.Message m) e = by-test Same (served m) (λ t. carried-same m e) (λ t. refused-same _)
+  requested-same : (r : Reading) → Reads s r → Same (requested tag s r out)
+  requested-same r reads =
+      by-request tag s out Same sent-same (λ k. refused-same (refused k)) (λ k p. refused-same (refusedAt k p)) r
+      (λ t m e.
+      let room = ltb-false (length out) leastOutput (first-none 0 _ _ (eqb-true (firstCheck tag out) 0 t) .0) in
+      set-same room m (r .lists .rows) (set-repeats s m (r .lists .entries) (r .lists .rows) (record-encodes s r (reads .outcome) (kind.SetRequest m) e .ranges)))
 
 pub refusal-keeps : RefusalKeeps
-unfolding RefusalKeeps requested
-refusal-keeps tag s r out reads =
-    let first = firstOf (check 1 (ltb (length out) leastOutput) ∷ check 26 (not (soundDirectory (length (tag .factory)) (length (tag .writable)) (tag .directory))) ∷ []) in
-    by-test (Unchanged tag out) (eqb first 0)
-    (λ t. answer-same tag s out r reads (ltb-false (length out) leastOutput (first-none 0 _ _ (eqb-true first 0 t) .0)) (r .answer) refl)
-    (λ t. record { so = λ h. (refl, refl) })
+unfolding RefusalKeeps isRefusal toldOf
+refusal-keeps tag s out a w o x =
+    let u = from-answered x (x .reading) (x .reads) (Unchanged tag out) (requested-same tag s out (x .reading) (x .reads)) in
+    (λ k h. u .so (ap (λ (z : RequestOutcome). isRefusal (toldOf z)) h), λ k p h. u .so (ap (λ (z : RequestOutcome). isRefusal (toldOf z)) h))

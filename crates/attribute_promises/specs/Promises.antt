@@ -1,8 +1,11 @@
--- What is proved of the request call besides its definition (01, "Reading and setting attributes"): no reply is longer than 512 octets, a reply reads back
--- as the message that is sent, a SET with a fault writes nothing, and without the tag's exact credentials the octets of protected rows play no part in a
--- reply (proofs/Promises.antt). RowKept, ProtectedKept and SetThenGet speak of the octets of a row after any call (proofs/Afterwards.antt). OneEffect and
--- Determined say that the request's octets and the tag leave one answer, one writable area and one output (proofs/OneEffect.antt). RefusesOnly says that the
--- call has 01's refusals, in 01's order, and no others (proofs/RefusesOnly.antt).
+-- What is proved of the request call besides its definition (01, "Reading and setting attributes"); each statement is a clause of `request_among`. No reply
+-- is longer than 512 octets (ShortReplies), and each reads back as the message that is sent (RepliesReadBack). A SET with a fault writes nothing
+-- (FaultyKeeps), and a refused call changes nothing (RefusalKeeps). Without the tag's exact credentials the octets of protected rows play no part in an
+-- answer (ProtectedUnseen). The writable area keeps its length (LengthKept), a row that no SET names its octets (RowKept), and so does a protected row
+-- without the tag's exact credentials (ProtectedKept); a GET after a SET gives the value set (SetThenGet). The request's octets and the tag leave one answer,
+-- one writable area and one output (OneEffect, Determined). The call has 01's refusals, in 01's order, and no others (RefusesOnly).
+-- In each statement s are the request's octets and out the output before the call, a is its answer, w and o are the writable area and the output
+-- afterwards, and r is the record that reading makes of s.
 -- Assumes nothing.
 use Prim.Native.Nat.{ℕ, _≤_}
 use mathlib.Core.Path.{_≡_}
@@ -11,6 +14,7 @@ use mathlib.Core.Bool.{Bool, true, false}
 use lib.Dec.{ltb}
 use lib.ListN.{length, take}
 use Rattle.refusals.specs.Check.{pick}
+use Rattle.apdu_format.specs.Component.{octetString}
 use Rattle.apdu_format.specs.Reading.{readMessage}
 use Rattle.apdu_format.specs.Reading.{Outcome as ReadOutcome, refused as unread, message as read}
 use Rattle.apdu_format.specs.RoundTrip.{ReadAs}
@@ -20,36 +24,50 @@ use Rattle.apdu.specs.declared.records.Message.the-variants as kind
 use Rattle.apdu_reading.specs.declared.front.Answer.{Answer}
 use Rattle.apdu_reading.specs.declared.front.Answer.the-variants as answer
 use Rattle.apdu_reading.specs.declared.front.Reading.{Reading}
-use Rattle.apdu_reading.specs.Answers.{outcomeOf, SoundRecord, Reads}
+use Rattle.apdu_reading.specs.Answers.{Reads}
 use Rattle.apdu.specs.declared.records.SetRequest.{SetRequest}
 use Rattle.apdu.specs.declared.records.GetRequest.{GetRequest}
 use Rattle.bits.specs.Strings.{stringAt}
 use Rattle.directory.specs.declared.Row.{Row}
 use Rattle.directory.specs.Directory.{soundDirectory, knownIn, rowOf}
-use Rattle.attributes.specs.Serving.{leastOutput, Attribute, Tag, Reply, Outcome, refused, refusedAt, silent, replied, Effect, noEntries, valueOf, exact, idsFrom, served, setStatus, getReply, requested, Answered}
+use Rattle.attributes.specs.Serving.{leastOutput, Attribute, Tag, Reply, Outcome, refused, refusedAt, silent, replied, effect, noEntries, valueOf, exact, idsFrom, getStatus, served, setStatus, sent, requested, toldOf, Answered}
+use Rattle.attributes.specs.Inside.{tagOf}
+use Rattle.attributes.specs.declared.answers.RequestOutcome.the-variants as outcome
 use Rattle.attributes.specs.declared.answers.RequestAnswer.{RequestAnswer}
 
+-- ---- replies
+
 -- a reply has at most 512 octets
-pub record Short (e : Effect) : Type 0 where
-  pub so : (n : ℕ) → e .outcome ≡ replied n → n ≤ 512
+unfoldable pub ShortReplies : Type 0
+ShortReplies =
+    (tag : Tag) (s out : List ℕ) (a : RequestAnswer) (w o : List ℕ) → Answered tag s out a w o → (n : ℕ) → a .outcome ≡ outcome.Reply n → n ≤ 512
 
--- the octets at the output's front are read, to their end, as the message of the reply
-pub record ReadsBack (q : Reply) (e : Effect) : Type 0 where
-  pub so : (n : ℕ) → e .outcome ≡ replied n → ReadAs (take n (e .output)) (valuesOf (q .lent) (q .message) noEntries (q .attributes))
+-- the octets of a reply
+abbrev pub ReplyRead : Reply → List ℕ → Type 0
+ReplyRead q octets = ReadAs octets (valuesOf (q .lent) (q .message) noEntries (q .attributes))
 
--- the same answer, and the same octets in the output
-pub record SameReply (a b : Effect) : Type 0 where
-  pub outcome : a .outcome ≡ b .outcome
-  pub output : a .output ≡ b .output
+-- some reply is sent, and the n octets at the output's front are read, to their end, as its message
+pub record ReadsBack (out : List ℕ) (n : ℕ) (w o : List ℕ) : Type 0 where
+  pub reply : Reply
+  pub is : effect (replied n) w o ≡ sent reply w out
+  pub reads : ReplyRead reply (take n o)
+
+unfoldable pub RepliesReadBack : Type 0
+RepliesReadBack =
+    (tag : Tag) (s out : List ℕ) (a : RequestAnswer) (w o : List ℕ) → Answered tag s out a w o → (n : ℕ) → a .outcome ≡ outcome.Reply n → ReadsBack out n w o
+
+-- ---- a SET with a fault: no row is written
+
+unfoldable pub FaultyKeeps : Type 0
+FaultyKeeps =
+    (tag : Tag) (s out : List ℕ) (a : RequestAnswer) (w o : List ℕ) → Answered tag s out a w o → (r : Reading) → Reads s r
+    → (m : SetRequest) → r .answer ≡ answer.Message (kind.SetRequest m) → (setStatus tag s m (r .lists .rows) ≡ 0 → ⊥) → w ≡ tag .writable
+
+-- ---- without the tag's exact credentials
 
 -- two pairs of areas agree in every row that is not protected
 pub record AgreeOpen (rows : List Row) (f w f' w' : List ℕ) : Type 0 where
   pub so : (id : ℕ) → rowOf id rows .protected ≡ false → valueOf f w (rowOf id rows) ≡ valueOf f' w' (rowOf id rows)
-
--- no attribute has this id
-abbrev pub Unnamed : ℕ → List Attribute → Type 0
-Unnamed id [] = Unit {0}
-Unnamed id (a ∷ rest) = (a .id ≡ id → ⊥) × Unnamed id rest
 
 -- the request carries the tag's exact credentials
 unfoldable pub holdsExact : List ℕ → List ℕ → Message → Bool
@@ -68,7 +86,22 @@ abbrev pub Without : List ℕ → List ℕ → Answer → Type 0
 Without s credentials (answer.Refused k p) = Unit {0}
 Without s credentials (answer.Message m) = holdsExact s credentials m ≡ false
 
--- ---- the octets of a row after a call; r is a reading of s
+-- two tags that differ only in octets of protected rows give the same answer and the same output
+unfoldable pub ProtectedUnseen : Type 0
+ProtectedUnseen =
+    (eid : ℕ) (credentials : List ℕ) (rows : List Row) (f v f' v' : List ℕ) → AgreeOpen rows f v f' v' → length f ≡ length f' → length v ≡ length v'
+    → (s out : List ℕ) (r : Reading) → Reads s r → Without s credentials (r .answer) → (a b : RequestAnswer) (w w' o o' : List ℕ)
+    → Answered (tagOf eid credentials rows f v) s out a w o → Answered (tagOf eid credentials rows f' v') s out b w' o' → (a ≡ b) × (o ≡ o')
+
+-- ---- the writable area after a call
+
+unfoldable pub LengthKept : Type 0
+LengthKept = (tag : Tag) (s out : List ℕ) (a : RequestAnswer) (w o : List ℕ) → Answered tag s out a w o → length w ≡ length (tag .writable)
+
+-- no attribute has this id
+abbrev pub Unnamed : ℕ → List Attribute → Type 0
+Unnamed id [] = Unit {0}
+Unnamed id (a ∷ rest) = (a .id ≡ id → ⊥) × Unnamed id rest
 
 -- the attributes that a request sets
 unfoldable pub namedBy : Answer → List Attribute → List Attribute
@@ -85,27 +118,27 @@ namedBy (answer.Message (kind.Bst m)) attributes = []
 namedBy (answer.Message (kind.Vst m)) attributes = []
 
 -- the row of an id keeps its octets
-pub record KeepsRow (tag : Tag) (id : ℕ) (e : Effect) : Type 0 where
-  pub so : valueOf (tag .factory) (e .writable) (rowOf id (tag .directory)) ≡ valueOf (tag .factory) (tag .writable) (rowOf id (tag .directory))
+pub record KeepsRow (tag : Tag) (id : ℕ) (w : List ℕ) : Type 0 where
+  pub so : valueOf (tag .factory) w (rowOf id (tag .directory)) ≡ valueOf (tag .factory) (tag .writable) (rowOf id (tag .directory))
 
 -- a row that no SET names keeps its octets, whatever is answered
 unfoldable pub RowKept : Type 0
 RowKept =
-    (tag : Tag) (s : List ℕ) (r : Reading) (out : List ℕ) (id : ℕ) → SoundRecord s r → knownIn id (tag .directory) ≡ true → Unnamed id (namedBy (r .answer) (r .lists .rows))
-    → KeepsRow tag id (requested tag s r out)
+    (tag : Tag) (s out : List ℕ) (a : RequestAnswer) (w o : List ℕ) → Answered tag s out a w o → (r : Reading) → Reads s r
+    → (id : ℕ) → knownIn id (tag .directory) ≡ true → Unnamed id (namedBy (r .answer) (r .lists .rows)) → KeepsRow tag id w
 
 -- and so does a protected row, unless the request carries the tag's exact credentials
 unfoldable pub ProtectedKept : Type 0
 ProtectedKept =
-    (tag : Tag) (s : List ℕ) (r : Reading) (out : List ℕ) (id : ℕ) → SoundRecord s r → knownIn id (tag .directory) ≡ true → rowOf id (tag .directory) .protected ≡ true
-    → Without s (tag .credentials) (r .answer) → KeepsRow tag id (requested tag s r out)
+    (tag : Tag) (s out : List ℕ) (a : RequestAnswer) (w o : List ℕ) → Answered tag s out a w o → (r : Reading) → Reads s r
+    → (id : ℕ) → knownIn id (tag .directory) ≡ true → rowOf id (tag .directory) .protected ≡ true → Without s (tag .credentials) (r .answer) → KeepsRow tag id w
 
--- the tag after a call
-abbrev pub afterwards : Tag → Effect → Tag
-afterwards tag e = record { eid = tag .eid; credentials = tag .credentials; directory = tag .directory; factory = tag .factory; writable = e .writable }
+-- the tag with the writable area that a call leaves
+abbrev pub afterwards : Tag → List ℕ → Tag
+afterwards tag w = record { eid = tag .eid; credentials = tag .credentials; directory = tag .directory; factory = tag .factory; writable = w }
 
--- a SET of status 0, of whose attributes a is the last with its id; and then a GET of that id: its reply carries the value set
-pub record SetGives (tag : Tag) (s : List ℕ) (r : Reading) (out : List ℕ) (a : Attribute) : Type 0 where
+-- a SET of status 0, of whose attributes x is the last with its id
+pub record SetGives (tag : Tag) (s : List ℕ) (r : Reading) (out : List ℕ) (x : Attribute) : Type 0 where
   pub m : SetRequest
   pub is : r .answer ≡ answer.Message (kind.SetRequest m)
   pub room : leastOutput ≤ length out
@@ -113,28 +146,56 @@ pub record SetGives (tag : Tag) (s : List ℕ) (r : Reading) (out : List ℕ) (a
   pub fine : setStatus tag s m (r .lists .rows) ≡ 0
   pub before : List Attribute
   pub behind : List Attribute
-  pub list : take (m .count) (r .lists .rows) ≡ before ++ (a ∷ behind)
-  pub last : Unnamed (a .id) behind
+  pub list : take (m .count) (r .lists .rows) ≡ before ++ (x ∷ behind)
+  pub last : Unnamed (x .id) behind
 
+-- a GET of status 0, of one id
+pub record GetsOne (tag : Tag) (s : List ℕ) (r : Reading) (out : List ℕ) (id : ℕ) (m : GetRequest) : Type 0 where
+  pub is : r .answer ≡ answer.Message (kind.GetRequest m)
+  pub room : leastOutput ≤ length out
+  pub fine : getStatus tag s m ≡ 0
+  pub ids : idsFrom s (m .ids) (m .count) ≡ id ∷ []
+
+-- the reply to a GET with one value v
+unfoldable pub oneValue : GetRequest → ℕ → List ℕ → Reply
+oneValue m id v =
+    record {
+      message = kind.GetResponse (record {
+        fill = 0;
+        eid = m .eid;
+        «has_iid» = m .«has_iid»;
+        iid = m .iid;
+        «has_attributes» = true;
+        count = 1;
+        rows = 1;
+        «has_ret» = false;
+        ret = 0;
+      });
+      attributes = record { id = id; kind = octetString; n = length v; start = 0 } ∷ [];
+      lent = v;
+    }
+
+-- a reply, read as this message
+pub record RepliesWith (q : Reply) (a : RequestAnswer) (o : List ℕ) : Type 0 where
+  pub n : ℕ
+  pub is : a .outcome ≡ outcome.Reply n
+  pub reads : ReplyRead q (take n o)
+
+-- a SET, and then a GET of the row that it set: the reply is read as the value set
 unfoldable pub SetThenGet : Type 0
 SetThenGet =
-    (tag : Tag) (s : List ℕ) (r : Reading) (out : List ℕ) (a : Attribute) → SoundRecord s r → SetGives tag s r out a
-    → (t : List ℕ) (get : GetRequest) → idsFrom t (get .ids) (get .count) ≡ a .id ∷ [] → getReply (afterwards tag (requested tag s r out)) t get .lent ≡ stringAt s (a .start) (a .n)
+    (tag : Tag) (s out : List ℕ) (a : RequestAnswer) (w o : List ℕ) → Answered tag s out a w o → (r : Reading) → Reads s r
+    → (x : Attribute) → SetGives tag s r out x
+    → (t out' : List ℕ) (b : RequestAnswer) (w' o' : List ℕ) → Answered (afterwards tag w) t out' b w' o' → (q : Reading) → Reads t q
+    → (m : GetRequest) → GetsOne (afterwards tag w) t q out' (x .id) m → RepliesWith (oneValue m (x .id) (stringAt s (x .start) (x .n))) b o'
 
--- ---- a refused call
-
-unfoldable pub isRefusal : Outcome → Bool
-isRefusal (refused k) = true
-isRefusal (refusedAt k p) = true
-isRefusal silent = false
-isRefusal (replied n) = false
-
--- it changes no octet of the writable area or of the output
-pub record Unchanged (tag : Tag) (out : List ℕ) (e : Effect) : Type 0 where
-  pub so : isRefusal (e .outcome) ≡ true → (e .writable ≡ tag .writable) × (e .output ≡ out)
+-- ---- a refused call changes no octet of the writable area or of the output
 
 unfoldable pub RefusalKeeps : Type 0
-RefusalKeeps = (tag : Tag) (s : List ℕ) (r : Reading) (out : List ℕ) → outcomeOf s r ≡ readMessage s → Unchanged tag out (requested tag s r out)
+RefusalKeeps =
+    (tag : Tag) (s out : List ℕ) (a : RequestAnswer) (w o : List ℕ) → Answered tag s out a w o
+    → ((k : ℕ) → a .outcome ≡ outcome.Refused k → (w ≡ tag .writable) × (o ≡ out))
+    × ((k p : ℕ) → a .outcome ≡ outcome.RefusedAt k p → (w ≡ tag .writable) × (o ≡ out))
 
 -- ---- one effect for each request
 
@@ -187,5 +248,5 @@ unserved (answer.Message m) = pick (served m) none (number 24)
 -- the first of these that holds is the call's refusal, and there is no other: a request that passes them has its reply, or the silence of a SET with mode 0
 unfoldable pub RefusesOnly : Type 0
 RefusesOnly =
-    (tag : Tag) (s : List ℕ) (r : Reading) (out : List ℕ) → Reads s r
-    → refusalIn (requested tag s r out .outcome) ≡ firstRefusal (smallOutput out ∷ unsoundDirectory tag ∷ unreadable (readMessage s) ∷ unserved (r .answer) ∷ [])
+    (tag : Tag) (s out : List ℕ) (a : RequestAnswer) (w o : List ℕ) → Answered tag s out a w o → (r : Reading) → Reads s r
+    → refusalIn (toldOf (a .outcome)) ≡ firstRefusal (smallOutput out ∷ unsoundDirectory tag ∷ unreadable (readMessage s) ∷ unserved (r .answer) ∷ [])

@@ -5,6 +5,7 @@ ghost use lib.ListN.{take};
 ghost use Rattle.directory.specs.Gathered.{listOf};
 ghost use Rattle.attributes.specs.Inside.{tagOf};
 ghost use Rattle.attributes.specs.Serving.{Answered};
+ghost use Rattle.attribute_promises.specs.Promises.{ShortReplies, RepliesReadBack, FaultyKeeps, ProtectedUnseen, LengthKept, RowKept, ProtectedKept, SetThenGet, RefusalKeeps, OneEffect, Determined, RefusesOnly};
 use apdu_reading::read;
 use attributes::LEAST_OUTPUT;
 use attributes::RequestAnswer;
@@ -29,7 +30,8 @@ fn request_lent(
 }
 
 // The request call of a tag whose directory is the first `count` rows: 1 for an output below 512 octets, 26 for a count above 32 or a directory that is not
-// sound, reading's refusals, 24 for a request that is not served. A refusal, or a status other than 0, changes no attribute octet.
+// sound, reading's refusals, 24 for a request that is not served. A refusal, or a status other than 0, changes no attribute octet. Its clauses behind the first are what
+// is proved of every call (specs/Promises.antt).
 pub fn request_among(
     s: &[u8],
     eid: u64,
@@ -41,6 +43,18 @@ pub fn request_among(
     out: &mut [u8],
 ) -> RequestAnswer
     ensures answer { λ r. ⌜ Answered (tagOf eid (now (credentials .entry)) (listOf (record { rows = rows; count = count })) (now (factory .entry)) (now (writable .entry))) (now (s .entry)) (now (out .entry)) r (now (writable .exit)) (now (out .exit)) ⌝ }
+    ensures short { λ _. ⌜ ShortReplies ⌝ }
+    ensures reads_back { λ _. ⌜ RepliesReadBack ⌝ }
+    ensures faulty { λ _. ⌜ FaultyKeeps ⌝ }
+    ensures unseen { λ _. ⌜ ProtectedUnseen ⌝ }
+    ensures length { λ _. ⌜ LengthKept ⌝ }
+    ensures row_kept { λ _. ⌜ RowKept ⌝ }
+    ensures protected_kept { λ _. ⌜ ProtectedKept ⌝ }
+    ensures set_then_get { λ _. ⌜ SetThenGet ⌝ }
+    ensures refusal_keeps { λ _. ⌜ RefusalKeeps ⌝ }
+    ensures one_effect { λ _. ⌜ OneEffect ⌝ }
+    ensures determined { λ _. ⌜ Determined ⌝ }
+    ensures refuses_only { λ _. ⌜ RefusesOnly ⌝ }
 {
     if MOST_ROWS < count {
         let _reading = read(s);
