@@ -13,7 +13,6 @@ from definitions import Scope, Tree, Unreadable, imported
 
 HERE = Path(__file__).resolve().parent
 MUST_FAIL = 'must-fail '
-OPEN = 'open'
 
 
 class Row:
@@ -28,7 +27,7 @@ class Row:
             raise Unreadable(f'row {number} names no call and clause: "{self.holder}"')
 
     def is_cited(self):
-        return not self.holder.startswith(MUST_FAIL) and self.holder != OPEN
+        return not self.holder.startswith(MUST_FAIL)
 
     def line(self, digest):
         return ' | '.join([self.says, self.statement, self.holder, digest])
@@ -58,8 +57,6 @@ def clause_of(tree, row):
 def digest_of(tree, row):
     """The digest of a row as the tree is: of its statement, and of the clause that cites it."""
     tree.definition(row.key)
-    if row.holder == OPEN:
-        return '-'
     if row.is_cited():
         _, clause = clause_of(tree, row)
         return tree.digest(clause.text, clause.keys)
@@ -195,8 +192,7 @@ def main(arguments):
         rows = []
     for fault in faults:
         print(f'promises: {fault}')
-    waiting = sum(row.holder == OPEN for row in rows)
-    print(f'promises: {len(rows)} rows, {waiting} open, {len(faults)} faults')
+    print(f'promises: {len(rows)} rows, {len(faults)} faults')
     return 1 if faults else 0
 
 
