@@ -20,7 +20,8 @@ use Rattle.apdu.specs.declared.lists.Entry.{Entry}
 use Rattle.apdu.specs.declared.records.Bst.{Bst}
 use Rattle.apdu.specs.declared.records.Message.the-variants as kind
 use Rattle.apdu.specs.Values.{bitOf, bstValues, valuesOf}
-use Rattle.apdu.specs.Sound.{sound, wellFormed}
+use Rattle.apdu.specs.Sound.{wellFormed}
+use Rattle.apdu.proofs.Formed.{formed-ranges}
 use Rattle.apdu.specs.declared.lists.Lists.{Lists}
 use Rattle.apdu_reading.specs.declared.front.Answer as reader
 use Rattle.apdu_reading.specs.declared.front.Answer.the-variants as answer
@@ -98,10 +99,10 @@ lead-fits false m i rest h =
 
 beacon-fits : (s : List ℕ) (m : Bst) (es : List Entry) (rs : List Row) → wellFormed s (kind.Bst m) es rs ≡ true
     → (ltb (m .manufacturer) (2 ^ 16) ≡ true) × (ltb (m .individual) (2 ^ 27) ≡ true)
-unfolding wellFormed inRange valuesOf bstValues
+unfolding inRange valuesOf bstValues
 beacon-fits s m es rs h =
     let vs = valuesOf s (kind.Bst m) es rs in
-    lead-fits (m .«has_others») (m .manufacturer) (m .individual) _ (both (written vs .ok) (none (written vs .left)) (both (inRange vs) (sound (length s) (kind.Bst m) es rs) h .0) .0)
+    lead-fits (m .«has_others») (m .manufacturer) (m .individual) _ (both (written vs .ok) (none (written vs .left)) (formed-ranges s (kind.Bst m) es rs h) .0)
 
 woken-in-range : (p : Phase) → phaseInRange p ≡ true → phaseInRange (woken p) ≡ true
 woken-in-range Sleeping h = refl

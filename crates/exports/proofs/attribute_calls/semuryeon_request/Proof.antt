@@ -20,7 +20,7 @@ same-length-2 : tie.Need-same-length-2
 same-length-2 c = search needs
 
 returns : tie.Need-returns
-returns c = (rw (← c .before .before .before .before .before .before .before .before .directory-in .ensures .0) (record { call = c .before .before .before .before .before .request-among .result; answered = c .before .before .before .before .before .request-among .ensures .0; is = c .told .ensures }), unpacking-request)
+returns c = (rw (← c .before .before .before .before .before .before .before .before .before .directory-in .ensures .0) (record { call = c .before .before .before .before .before .request-among .result; answered = c .before .before .before .before .before .request-among .ensures .0; is = c .told .ensures }), unpacking-request)
 
 pub semuryeon-request-spec : {M : Type 1} → statement M
 semuryeon-request-spec =
