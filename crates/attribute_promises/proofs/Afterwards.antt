@@ -7,7 +7,7 @@ use mathlib.Core.Bool.{Bool, true, false, _&&_}
 use mathlib.Core.List.{List, [], _∷_, _++_, append-nil}
 use native.Mathlib.Omega.{arith}
 use lib.Dec.{eqb}
-use lib.ListN.{length, take}
+use lib.ListN.{length, take, drop}
 use lib.Seq.{take-take}
 use borrow.Author.Tests.{eqb-true, le-ltb, not-false}
 use Rattle.refusals.specs.Check.{pick, firstOf}
@@ -31,14 +31,14 @@ use Rattle.directory.specs.Directory.{soundDirectory, knownIn, rowOf}
 use Rattle.attributes.specs.declared.answers.RequestAnswer.{RequestAnswer}
 use Rattle.attributes.specs.Serving.{leastOutput, Attribute, Tag, Reply, replied, Effect, sent, tooLong, exact, getting, setFaults, setStatus, setRows, setting, served, carried, byReading, requested, valueOf, valuesIn, rowsOf, attributesAt, getReply, Answered}
 use Rattle.attributes.proofs.ValueReply.{count-ids}
-use Rattle.attribute_promises.specs.Promises.{LengthKept, Unnamed, holdsExact, Without, namedBy, KeepsRow, RowKept, ProtectedKept, afterwards, SetGives, GetsOne, oneValue, RepliesWith, SetThenGet}
+use Rattle.attribute_promises.specs.Promises.{LengthKept, Outside, OctetKept, Unnamed, holdsExact, Without, namedBy, KeepsRow, RowKept, ProtectedKept, afterwards, SetGives, GetsOne, oneValue, RepliesWith, SetThenGet}
 use Rattle.attribute_promises.proofs.OneEffect.{caseOf, case-of, answered-is, from-answered}
 use Rattle.attribute_promises.proofs.Cases.{firstCheck, by-request}
 use Rattle.attribute_promises.proofs.Repeated.{get-repeats}
 use Rattle.attribute_promises.proofs.Replies.{valuesBy, Fine, sent-fine}
 use Rattle.attribute_promises.proofs.GetValues.{value-fine}
 use Rattle.attribute_promises.proofs.Promises.{sent-reads}
-use Rattle.attribute_promises.proofs.Kept.{row-id, rows-length, fine-among, row-kept, unnamed-if, set-then-get}
+use Rattle.attribute_promises.proofs.Kept.{row-id, rows-length, fine-among, row-kept, octet-kept, unnamed-if, set-then-get}
 use Rattle.attribute_promises.proofs.Kept.{Fine as FineSet}
 
 -- ---- the values of a SET lie inside the request
@@ -78,6 +78,11 @@ named-front n m rs h =
 
 set-fits : (n : ℕ) (m : SetRequest) (rs : List Attribute) → setRequestSound n m rs ≡ true → partsFit n (take (m .count) rs) ≡ true
 set-fits n m rs h = ap (partsFit n) (sym (named-front n m rs h)) ∙ fit-take n (m .count) (take (m .rows) rs) (set-rows n m rs h .0)
+
+-- a SET that was read is sound
+set-named : (a : Answer) (l : Lists) (n : ℕ) (m : SetRequest) → a ≡ answer.Message (kind.SetRequest m) → soundBy n l a → setRequestSound n m (l .rows) ≡ true
+unfolding soundBy sound
+set-named a l n m e h = rw e at h
 
 -- ---- the call
 
@@ -135,17 +140,10 @@ module _ (tag : Tag) (s out : List ℕ) where
               row-kept s (tag .directory) (sureOf m) (tag .factory) id k (take (m .count) attributes) (tag .writable) d z (set-fits (length s) m attributes h) (u z))
               (λ t. refl)
 
-    set-spared : (a : Answer) (l : Lists) (m : SetRequest) → a ≡ answer.Message (kind.SetRequest m) → soundBy (length s) l a → SparedIn a (l .rows)
-        → (setRequestSound (length s) m (l .rows) ≡ true) × Spared m (l .rows)
-    unfolding soundBy sound
-    set-spared a l m e h u = (rw e at h, rw e at u)
-
     requested-kept : (r : Reading) → SoundRecord s r → SparedIn (r .answer) (r .lists .rows) → Keeps (requested tag s r out)
     requested-kept r h u =
         by-request tag s out Keeps sent-keeps (λ k. record { so = refl }) (λ k p. record { so = refl }) r
-        (λ t m e.
-        let p = set-spared (r .answer) (r .lists) m e (h .is) u in
-        set-row-kept (sound-then (eqb-true _ _ t)) m (r .lists .rows) (p .0) (p .1))
+        (λ t m e. set-row-kept (sound-then (eqb-true _ _ t)) m (r .lists .rows) (set-named (r .answer) (r .lists) (length s) m e (h .is)) (rw e at u))
 
     spared : (a : Answer) (attributes : List Attribute) → Unnamed id (namedBy a attributes) → SparedIn a attributes
     unfolding namedBy
@@ -206,6 +204,30 @@ module _ (tag : Tag) (s out : List ℕ) where
         ∙ set-then-get s (tag .directory) (sureOf (g .m)) (tag .factory) a (g .behind) (g .last) (g .before) (tag .writable) (g .sound) no-fault-listed
         (ap (partsFit (length s)) (sym (g .list)) ∙ inside)
 
+-- ---- an octet in no row that a SET names
+
+module _ (tag : Tag) (s out : List ℕ) (r : Reading) (i : ℕ) where
+  abbrev Stays : Effect → Type 0
+  Stays e = take 1 (drop i (e .writable)) ≡ take 1 (drop i (tag .writable))
+
+  octet-stays : SoundRecord s r → Outside i (tag .directory) (namedBy (r .answer) (r .lists .rows)) → Stays (requested tag s r out)
+  unfolding setting sent namedBy
+  octet-stays h u =
+      by-request tag s out Stays (λ q. refl) (λ k. refl) (λ k p. refl) r
+      (λ t m e. by-test Stays (m .mode) (λ z. area t m e) (λ z. area t m e))
+    where
+      area : eqb (firstCheck tag out) 0 ≡ true → (m : SetRequest) → r .answer ≡ answer.Message (kind.SetRequest m)
+          → take 1 (drop i (pick (eqb (setStatus tag s m (r .lists .rows)) 0) (setRows s (tag .directory) (take (m .count) (r .lists .rows)) (tag .writable)) (tag .writable))) ≡ take 1 (drop i (tag .writable))
+      area t m e =
+          by-test (λ (l : List ℕ). take 1 (drop i l) ≡ take 1 (drop i (tag .writable))) (eqb (setStatus tag s m (r .lists .rows)) 0)
+          (λ z.
+          octet-kept s (tag .directory) (sureOf tag s out m) (tag .factory) i (take (m .count) (r .lists .rows)) (tag .writable)
+          (sound-then tag s out (eqb-true _ _ t))
+          (no-fault tag s out m (r .lists .rows) (eqb-true _ _ z))
+          (set-fits (length s) m (r .lists .rows) (set-named (r .answer) (r .lists) (length s) m e (h .is)))
+          (rw e at u))
+          (λ z. refl)
+
 -- ---- a GET of one row
 
 module _ (tag : Tag) (t out : List ℕ) (q : Reading) (reads : Reads t q) (id : ℕ) (m : GetRequest) (g : GetsOne tag t q out id m)
@@ -263,6 +285,10 @@ length-kept tag s out a w o x =
         by-test (λ (l : List ℕ). length l ≡ length (tag .writable)) (eqb (setStatus tag s m attributes) 0)
         (λ t. rows-length s (tag .directory) (take (m .count) attributes) (tag .writable))
         (λ t. refl)
+
+pub octet-kept-always : OctetKept
+unfolding OctetKept
+octet-kept-always tag s out a w o x r reads i u = from-answered x r reads (Stays tag s out r i) (octet-stays tag s out r i (reads .sound) u)
 
 pub row-kept-always : RowKept
 unfolding RowKept

@@ -23,8 +23,8 @@ use Rattle.directory.specs.declared.Row.{Row}
 use Rattle.directory.specs.Directory.{shareOctet, clashes, apartFrom, allApart, eachSound, soundDirectory, indexOf, knownIn, rowOf}
 use Rattle.directory.proofs.Looking.{sound-row, inside-area, in-writable}
 use Rattle.attributes.specs.Serving.{Attribute, denied, setFault, setFaults, setRow, setRows, valueOf}
-use Rattle.attribute_promises.specs.Promises.{Unnamed}
-use Rattle.attribute_promises.proofs.Promises.{set-value, set-leaves, set-factory-left}
+use Rattle.attribute_promises.specs.Promises.{Unnamed, Outside}
+use Rattle.attribute_promises.proofs.Promises.{set-value, set-leaves, set-octet, set-factory-left}
 
 -- ---- rows with different ids share no octet
 
@@ -220,6 +220,23 @@ module _ (s : List ℕ) (rows : List Row) (exact : Bool) (f : List ℕ) (id : �
       let l : length w ≡ length (setRow s rows a w) = sym (row-length s rows a w) in
       let g : soundDirectory (length f) (length (setRow s rows a w)) rows ≡ true = ap (λ (n : ℕ). soundDirectory (length f) n rows) (sym l) ∙ h in
       row-kept rest (setRow s rows a w) g (p .1) (q .1) (u .1) ∙ one-kept s rows exact f w h a (p .0) (q .0) id (u .0) k
+
+-- an octet that lies in no row which the attributes name stays
+module _ (s : List ℕ) (rows : List Row) (exact : Bool) (f : List ℕ) (i : ℕ) where
+  within-row : (start n m : ℕ) → n ≡ m → (i < start) ⊎ (start + m ≤ i) → (i < start) ⊎ (start + n ≤ i)
+  within-row start n m e (inl k) = inl k
+  within-row start n m e (inr k) = inr (omega arith)
+
+  pub octet-kept : (attributes : List Attribute) (w : List ℕ) → soundDirectory (length f) (length w) rows ≡ true → firstOf (setFaults rows exact attributes) ≡ 0 → partsFit (length s) attributes ≡ true → Outside i rows attributes
+      → take 1 (drop i (setRows s rows attributes w)) ≡ take 1 (drop i w)
+  unfolding setRows partsFit
+  octet-kept [] w h z p u = refl
+  octet-kept (a ∷ rest) w h z p u =
+      let x = fine-first rows exact a rest z in
+      let q = both (partFits (length s) (a .kind) (a .n) (a .start)) (partsFit (length s) rest) p in
+      let g : soundDirectory (length f) (length (setRow s rows a w)) rows ≡ true = ap (λ (n : ℕ). soundDirectory (length f) n rows) (row-length s rows a w) ∙ h in
+      octet-kept rest (setRow s rows a w) g (x .1) (q .1) (u .1)
+      ∙ set-octet s rows a f w (copy-fits s rows exact f w h a (x .0) (q .0)) i (within-row (rowOf (a .id) rows .start) (a .n) (rowOf (a .id) rows .length) (x .0 .whole) (u .0))
 
 -- without the tag's exact credentials no protected row is named
 pub unnamed-if : (rows : List Row) (id : ℕ) → rowOf id rows .protected ≡ true → (attributes : List Attribute) → firstOf (setFaults rows false attributes) ≡ 0 → Unnamed id attributes

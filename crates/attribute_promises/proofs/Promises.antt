@@ -1,6 +1,6 @@
 -- The promises of specs/Promises.antt, each of every tag, request and output.
 -- Assumes nothing.
-use Prim.Native.Nat.{ℕ, _+_, _-_, _≤_}
+use Prim.Native.Nat.{ℕ, _+_, _-_, _<_, _≤_}
 use mathlib.Core.Path.{_≡_, refl, ap, ap₂, sym, _∙_}
 use mathlib.Core.Bool.{Bool, true, false, not, _&&_}
 use mathlib.Core.List.{List, [], _∷_, _++_, append-assoc}
@@ -273,6 +273,11 @@ module _ (s : List ℕ) (rows : List Row) (a : Attribute) (f w : List ℕ) (fits
   unfolding valueOf
   set-leaves row h (inl k) = rw (h, set-is) (part-front w value (target .start) room (row .start) (row .length) k)
   set-leaves row h (inr k) = rw (h, set-is) (part-behind w value (target .start) room (row .start) (row .length) (omega (arith, length-string s (a .start) (a .n))))
+
+  -- so does an octet of the area that lies in front of it or behind it
+  pub set-octet : (i : ℕ) → (i < target .start) ⊎ (target .start + a .n ≤ i) → take 1 (drop i (setRow s rows a w)) ≡ take 1 (drop i w)
+  set-octet i (inl k) = rw set-is (part-front w value (target .start) room i 1 (omega arith))
+  set-octet i (inr k) = rw set-is (part-behind w value (target .start) room i 1 (omega (arith, length-string s (a .start) (a .n))))
 
   -- and so does a row of the factory area
   pub set-factory-left : (row : Row) → row .writable ≡ false → valueOf f (setRow s rows a w) row ≡ valueOf f w row

@@ -30,7 +30,7 @@ use Rattle.directory.specs.declared.Row.{Row}
 use Rattle.directory.specs.Directory.{soundDirectory}
 use Rattle.attributes.specs.Serving.{leastOutput, Attribute, Tag, Reply, Effect, sent, tooLong, getFault, getFaults, getStatus, getReply, getting, setFault, setFaults, setStatus, setting, served, carried, byReading, requested}
 use Rattle.attributes.proofs.Ranges.{read-fits, fits-get}
-use Rattle.attribute_promises.specs.Promises.{none, refusalIn, firstRefusal, smallOutput, unsoundDirectory, unreadable, unserved, RefusesOnly}
+use Rattle.attribute_promises.specs.Promises.{none, refusalIn, firstRefusal, unreadable, unserved, RefusesOnly}
 use Rattle.attribute_promises.proofs.OneEffect.{answered-is}
 use Rattle.attribute_promises.proofs.Repeated.{Repeats, set-repeats, get-repeats, echoes}
 use Rattle.attribute_promises.proofs.Replies.{Fine, sent-fine, set-fine, get-fine, echo-fine}
@@ -118,17 +118,13 @@ module _ (tag : Tag) (s out : List ℕ) (room : leastOutput ≤ length out) wher
 
 -- ---- the call
 
-requested-refuses : (tag : Tag) (s out : List ℕ) (r : Reading) → Reads s r
-    → refusalIn (requested tag s r out .outcome) ≡ firstRefusal (smallOutput out ∷ unsoundDirectory tag ∷ unreadable (readMessage s) ∷ unserved (r .answer) ∷ [])
-unfolding requested firstOf refusalIn firstRefusal
-requested-refuses tag s out r reads =
-    by-cases (ltb (length out) leastOutput)
+pub refuses-only : RefusesOnly
+unfolding RefusesOnly requested firstOf refusalIn firstRefusal
+refuses-only tag s out a w o x r reads =
+    ap (λ (e : Effect). refusalIn (e .outcome)) (answered-is x r reads)
+    ∙ by-cases (ltb (length out) leastOutput)
     (λ t. rw t)
     (λ t.
     by-cases (soundDirectory (length (tag .factory)) (length (tag .writable)) (tag .directory))
     (λ u. rw (t, u) (answer-refuses tag s out (ltb-false (length out) leastOutput t) u r reads (r .answer) refl))
     (λ u. rw (t, u)))
-
-pub refuses-only : RefusesOnly
-unfolding RefusesOnly
-refuses-only tag s out a w o x r reads = ap (λ (e : Effect). refusalIn (e .outcome)) (answered-is x r reads) ∙ requested-refuses tag s out r reads

@@ -1,18 +1,20 @@
 -- What is proved of the request call besides its definition (01, "Reading and setting attributes"); each statement is a clause of `request_among`. No reply
 -- is longer than 512 octets (ShortReplies), and each reads back as the message that is sent (RepliesReadBack). A SET with a fault writes nothing
 -- (FaultyKeeps), and a refused call changes nothing (RefusalKeeps). Without the tag's exact credentials the octets of protected rows play no part in an
--- answer (ProtectedUnseen). The writable area keeps its length (LengthKept), a row that no SET names its octets (RowKept), and so does a protected row
--- without the tag's exact credentials (ProtectedKept); a GET after a SET gives the value set (SetThenGet). The request's octets and the tag leave one answer,
+-- answer (ProtectedUnseen). The writable area keeps its length (LengthKept) and every octet that lies in no row which a SET names (OctetKept); so
+-- does a row that no SET names (RowKept), and a protected row without the tag's exact credentials (ProtectedKept). A GET after a SET gives the value set
+-- (SetThenGet). The request's octets and the tag leave one answer,
 -- one writable area and one output (OneEffect, Determined). The call has 01's refusals, in 01's order, and no others (RefusesOnly).
 -- In each statement s are the request's octets and out the output before the call, a is its answer, w and o are the writable area and the output
 -- afterwards, and r is the record that reading makes of s.
 -- Assumes nothing.
-use Prim.Native.Nat.{ℕ, _≤_}
+use Prim.Native.Nat.{ℕ, _+_, _<_, _≤_}
 use mathlib.Core.Path.{_≡_}
 use mathlib.Core.List.{List, [], _∷_, _++_}
 use mathlib.Core.Bool.{Bool, true, false}
+use mathlib.Core.Logic.{_⊎_}
 use lib.Dec.{ltb}
-use lib.ListN.{length, take}
+use lib.ListN.{length, take, drop}
 use Rattle.refusals.specs.Check.{pick}
 use Rattle.apdu_format.specs.Component.{octetString}
 use Rattle.apdu_format.specs.Reading.{readMessage}
@@ -116,6 +118,18 @@ namedBy (answer.Message (kind.GetRequest m)) attributes = []
 namedBy (answer.Message (kind.GetResponse m)) attributes = []
 namedBy (answer.Message (kind.Bst m)) attributes = []
 namedBy (answer.Message (kind.Vst m)) attributes = []
+
+-- octet i of the writable area lies in no row that these attributes name
+abbrev pub Outside : ℕ → List Row → List Attribute → Type 0
+Outside i rows [] = Unit {0}
+Outside i rows (x ∷ rest) =
+    ((i < rowOf (x .id) rows .start) ⊎ (rowOf (x .id) rows .start + rowOf (x .id) rows .length ≤ i)) × Outside i rows rest
+
+-- an octet in no row that a SET names stays, whatever is answered
+unfoldable pub OctetKept : Type 0
+OctetKept =
+    (tag : Tag) (s out : List ℕ) (a : RequestAnswer) (w o : List ℕ) → Answered tag s out a w o → (r : Reading) → Reads s r
+    → (i : ℕ) → Outside i (tag .directory) (namedBy (r .answer) (r .lists .rows)) → take 1 (drop i w) ≡ take 1 (drop i (tag .writable))
 
 -- the row of an id keeps its octets
 pub record KeepsRow (tag : Tag) (id : ℕ) (w : List ℕ) : Type 0 where

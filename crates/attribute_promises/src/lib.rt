@@ -5,7 +5,7 @@ ghost use lib.ListN.{take};
 ghost use Rattle.directory.specs.Gathered.{listOf};
 ghost use Rattle.attributes.specs.Inside.{tagOf};
 ghost use Rattle.attributes.specs.Serving.{Answered};
-ghost use Rattle.attribute_promises.specs.Promises.{ShortReplies, RepliesReadBack, FaultyKeeps, ProtectedUnseen, LengthKept, RowKept, ProtectedKept, SetThenGet, RefusalKeeps, OneEffect, Determined, RefusesOnly};
+ghost use Rattle.attribute_promises.specs.Promises.{ShortReplies, RepliesReadBack, FaultyKeeps, ProtectedUnseen, LengthKept, OctetKept, RowKept, ProtectedKept, SetThenGet, RefusalKeeps, OneEffect, Determined, RefusesOnly};
 use apdu_reading::read;
 use attributes::LEAST_OUTPUT;
 use attributes::RequestAnswer;
@@ -48,6 +48,7 @@ pub fn request_among(
     ensures faulty { λ _. ⌜ FaultyKeeps ⌝ }
     ensures unseen { λ _. ⌜ ProtectedUnseen ⌝ }
     ensures length { λ _. ⌜ LengthKept ⌝ }
+    ensures octet_kept { λ _. ⌜ OctetKept ⌝ }
     ensures row_kept { λ _. ⌜ RowKept ⌝ }
     ensures protected_kept { λ _. ⌜ ProtectedKept ⌝ }
     ensures set_then_get { λ _. ⌜ SetThenGet ⌝ }
