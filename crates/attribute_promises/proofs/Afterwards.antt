@@ -1,5 +1,5 @@
--- The octets of a row after any call: kept where no SET names the row, kept where it is protected and the request has not the tag's exact credentials, and
--- those of the last value where a SET was carried out.
+-- The writable area after any call: its length; the octets in no row that a SET names; those of a row, kept where no SET names it, kept where it is protected
+-- and the SET has not the tag's exact credentials, and those of the last value where a SET was carried out, which a GET then gives.
 -- Assumes nothing.
 use Prim.Native.Nat.{ℕ, zero, suc, _+_, _≤_}
 use mathlib.Core.Path.{_≡_, refl, ap, sym, _∙_}
@@ -17,7 +17,6 @@ use Rattle.bits.proofs.Strings.{length-string}
 use Rattle.apdu_format.specs.Writing.{size}
 use Rattle.apdu_format.proofs.Tests.{never, both}
 use Rattle.apdu.specs.declared.lists.Lists.{Lists}
-use Rattle.apdu.specs.declared.records.Message.{Message}
 use Rattle.apdu.specs.declared.records.Message.the-variants as kind
 use Rattle.apdu.specs.declared.records.SetRequest.{SetRequest}
 use Rattle.apdu.specs.declared.records.GetRequest.{GetRequest}
@@ -29,9 +28,9 @@ use Rattle.apdu_reading.specs.Answers.{soundBy, SoundRecord, Reads}
 use Rattle.apdu_reading.proofs.Encoded.{record-encodes}
 use Rattle.directory.specs.Directory.{soundDirectory, knownIn, rowOf}
 use Rattle.attributes.specs.declared.answers.RequestAnswer.{RequestAnswer}
-use Rattle.attributes.specs.Serving.{leastOutput, Attribute, Tag, Reply, replied, Effect, sent, tooLong, exact, getting, setFaults, setStatus, setRows, setting, served, carried, byReading, requested, valueOf, valuesIn, rowsOf, attributesAt, getReply, Answered}
+use Rattle.attributes.specs.Serving.{leastOutput, Attribute, Tag, replied, Effect, sent, tooLong, exact, getting, setFaults, setStatus, setRows, setting, served, carried, byReading, requested, valueOf, valuesIn, rowsOf, attributesAt, getReply, Answered}
 use Rattle.attributes.proofs.ValueReply.{count-ids}
-use Rattle.attribute_promises.specs.Promises.{LengthKept, Outside, OctetKept, Unnamed, holdsExact, Without, namedBy, KeepsRow, RowKept, ProtectedKept, afterwards, SetGives, GetsOne, oneValue, RepliesWith, SetThenGet}
+use Rattle.attribute_promises.specs.Promises.{LengthKept, OctetKept, KeepsRow, RowKept, ProtectedKept, afterwards, SetGives, GetsOne, oneValue, RepliesWith, SetThenGet}
 use Rattle.attribute_promises.proofs.OneEffect.{caseOf, case-of, answered-is, from-answered}
 use Rattle.attribute_promises.proofs.Cases.{firstCheck, by-request}
 use Rattle.attribute_promises.proofs.Repeated.{get-repeats}
@@ -97,82 +96,25 @@ module _ (tag : Tag) (s out : List ℕ) where
   unfolding setStatus
   no-fault m attributes z = first-none 1 _ _ z .1
 
-  module _ (id : ℕ) (k : knownIn id (tag .directory) ≡ true) where
-    abbrev Keeps : Effect → Type 0
-    Keeps e = KeepsRow tag id (e .writable)
-
-    sent-keeps : (q : Reply) → Keeps (sent q (tag .writable) out)
-    unfolding sent
-    sent-keeps q = record { so = refl }
-
-    -- what a SET without a fault names does not have the id
-    abbrev Spared : SetRequest → List Attribute → Type 0
-    Spared m attributes = firstOf (setFaults (tag .directory) (sureOf m) (take (m .count) attributes)) ≡ 0 → Unnamed id (take (m .count) attributes)
-
-    abbrev SparedBy : Message → List Attribute → Type 0
-    SparedBy (kind.ActionRequest m) attributes = Unit {0}
-    SparedBy (kind.ActionResponse m) attributes = Unit {0}
-    SparedBy (kind.EventRequest m) attributes = Unit {0}
-    SparedBy (kind.EventResponse m) attributes = Unit {0}
-    SparedBy (kind.SetRequest m) attributes = Spared m attributes
-    SparedBy (kind.SetResponse m) attributes = Unit {0}
-    SparedBy (kind.GetRequest m) attributes = Unit {0}
-    SparedBy (kind.GetResponse m) attributes = Unit {0}
-    SparedBy (kind.Bst m) attributes = Unit {0}
-    SparedBy (kind.Vst m) attributes = Unit {0}
-
-    abbrev SparedIn : Answer → List Attribute → Type 0
-    SparedIn (answer.Refused k p) attributes = Unit {0}
-    SparedIn (answer.Message m) attributes = SparedBy m attributes
-
-    module _ (d : soundDirectory (length (tag .factory)) (length (tag .writable)) (tag .directory) ≡ true) where
-      set-row-kept : (m : SetRequest) (attributes : List Attribute) → setRequestSound (length s) m attributes ≡ true → Spared m attributes → Keeps (setting tag s m attributes out)
-      unfolding setting sent
-      set-row-kept m attributes h u = by-test Keeps (m .mode) (λ t. record { so = area }) (λ t. record { so = area })
-        where
-          area : valueOf (tag .factory) (pick (eqb (setStatus tag s m attributes) 0) (setRows s (tag .directory) (take (m .count) attributes) (tag .writable)) (tag .writable)) (rowOf id (tag .directory))
-              ≡ valueOf (tag .factory) (tag .writable) (rowOf id (tag .directory))
-          area =
-              by-test (λ (w : List ℕ). valueOf (tag .factory) w (rowOf id (tag .directory)) ≡ valueOf (tag .factory) (tag .writable) (rowOf id (tag .directory)))
-              (eqb (setStatus tag s m attributes) 0)
-              (λ t.
-              let z = no-fault m attributes (eqb-true _ _ t) in
-              row-kept s (tag .directory) (sureOf m) (tag .factory) id k (take (m .count) attributes) (tag .writable) d z (set-fits (length s) m attributes h) (u z))
-              (λ t. refl)
-
-    requested-kept : (r : Reading) → SoundRecord s r → SparedIn (r .answer) (r .lists .rows) → Keeps (requested tag s r out)
-    requested-kept r h u =
-        by-request tag s out Keeps sent-keeps (λ k. record { so = refl }) (λ k p. record { so = refl }) r
-        (λ t m e. set-row-kept (sound-then (eqb-true _ _ t)) m (r .lists .rows) (set-named (r .answer) (r .lists) (length s) m e (h .is)) (rw e at u))
-
-    spared : (a : Answer) (attributes : List Attribute) → Unnamed id (namedBy a attributes) → SparedIn a attributes
-    unfolding namedBy
-    spared (answer.Refused k p) attributes u = tt
-    spared (answer.Message (kind.ActionRequest m)) attributes u = tt
-    spared (answer.Message (kind.ActionResponse m)) attributes u = tt
-    spared (answer.Message (kind.EventRequest m)) attributes u = tt
-    spared (answer.Message (kind.EventResponse m)) attributes u = tt
-    spared (answer.Message (kind.SetRequest m)) attributes u = λ z. u
-    spared (answer.Message (kind.SetResponse m)) attributes u = tt
-    spared (answer.Message (kind.GetRequest m)) attributes u = tt
-    spared (answer.Message (kind.GetResponse m)) attributes u = tt
-    spared (answer.Message (kind.Bst m)) attributes u = tt
-    spared (answer.Message (kind.Vst m)) attributes u = tt
-
-    guarded : rowOf id (tag .directory) .protected ≡ true → (a : Answer) (attributes : List Attribute) → Without s (tag .credentials) a → SparedIn a attributes
-    unfolding holdsExact
-    guarded g (answer.Refused k p) attributes h = tt
-    guarded g (answer.Message (kind.ActionRequest m)) attributes h = tt
-    guarded g (answer.Message (kind.ActionResponse m)) attributes h = tt
-    guarded g (answer.Message (kind.EventRequest m)) attributes h = tt
-    guarded g (answer.Message (kind.EventResponse m)) attributes h = tt
-    guarded g (answer.Message (kind.SetRequest m)) attributes h =
-        λ z. unnamed-if (tag .directory) id g (take (m .count) attributes) (ap (λ (b : Bool). firstOf (setFaults (tag .directory) b (take (m .count) attributes))) (sym h) ∙ z)
-    guarded g (answer.Message (kind.SetResponse m)) attributes h = tt
-    guarded g (answer.Message (kind.GetRequest m)) attributes h = tt
-    guarded g (answer.Message (kind.GetResponse m)) attributes h = tt
-    guarded g (answer.Message (kind.Bst m)) attributes h = tt
-    guarded g (answer.Message (kind.Vst m)) attributes h = tt
+  -- what holds of the writable area, and of it behind a SET without a fault, holds of it behind any call
+  module _ (r : Reading) (h : SoundRecord s r) (Q : List ℕ → Type 0) (now : Q (tag .writable))
+      (set : (m : SetRequest) → r .answer ≡ answer.Message (kind.SetRequest m) → soundDirectory (length (tag .factory)) (length (tag .writable)) (tag .directory) ≡ true
+      → firstOf (setFaults (tag .directory) (sureOf m) (take (m .count) (r .lists .rows))) ≡ 0 → partsFit (length s) (take (m .count) (r .lists .rows)) ≡ true
+      → Q (setRows s (tag .directory) (take (m .count) (r .lists .rows)) (tag .writable))) where
+    area-after : Q (requested tag s r out .writable)
+    unfolding setting sent
+    area-after =
+        by-request tag s out (λ (e : Effect). Q (e .writable)) (λ q. now) (λ k. now) (λ k p. now) r
+        (λ t m e. by-test (λ (z : Effect). Q (z .writable)) (m .mode) (λ u. area t m e) (λ u. area t m e))
+      where
+        area : eqb (firstCheck tag out) 0 ≡ true → (m : SetRequest) → r .answer ≡ answer.Message (kind.SetRequest m)
+            → Q (pick (eqb (setStatus tag s m (r .lists .rows)) 0) (setRows s (tag .directory) (take (m .count) (r .lists .rows)) (tag .writable)) (tag .writable))
+        area t m e =
+            by-test Q (eqb (setStatus tag s m (r .lists .rows)) 0)
+            (λ z.
+            set m e (sound-then (eqb-true _ _ t)) (no-fault m (r .lists .rows) (eqb-true _ _ z))
+            (set-fits (length s) m (r .lists .rows) (set-named (r .answer) (r .lists) (length s) m e (h .is))))
+            (λ z. now)
 
   -- ---- a SET that is carried out
 
@@ -203,30 +145,6 @@ module _ (tag : Tag) (s out : List ℕ) where
         (area-set ∙ ap (λ (l : List Attribute). setRows s (tag .directory) l (tag .writable)) (g .list))
         ∙ set-then-get s (tag .directory) (sureOf (g .m)) (tag .factory) a (g .behind) (g .last) (g .before) (tag .writable) (g .sound) no-fault-listed
         (ap (partsFit (length s)) (sym (g .list)) ∙ inside)
-
--- ---- an octet in no row that a SET names
-
-module _ (tag : Tag) (s out : List ℕ) (r : Reading) (i : ℕ) where
-  abbrev Stays : Effect → Type 0
-  Stays e = take 1 (drop i (e .writable)) ≡ take 1 (drop i (tag .writable))
-
-  octet-stays : SoundRecord s r → Outside i (tag .directory) (namedBy (r .answer) (r .lists .rows)) → Stays (requested tag s r out)
-  unfolding setting sent namedBy
-  octet-stays h u =
-      by-request tag s out Stays (λ q. refl) (λ k. refl) (λ k p. refl) r
-      (λ t m e. by-test Stays (m .mode) (λ z. area t m e) (λ z. area t m e))
-    where
-      area : eqb (firstCheck tag out) 0 ≡ true → (m : SetRequest) → r .answer ≡ answer.Message (kind.SetRequest m)
-          → take 1 (drop i (pick (eqb (setStatus tag s m (r .lists .rows)) 0) (setRows s (tag .directory) (take (m .count) (r .lists .rows)) (tag .writable)) (tag .writable))) ≡ take 1 (drop i (tag .writable))
-      area t m e =
-          by-test (λ (l : List ℕ). take 1 (drop i l) ≡ take 1 (drop i (tag .writable))) (eqb (setStatus tag s m (r .lists .rows)) 0)
-          (λ z.
-          octet-kept s (tag .directory) (sureOf tag s out m) (tag .factory) i (take (m .count) (r .lists .rows)) (tag .writable)
-          (sound-then tag s out (eqb-true _ _ t))
-          (no-fault tag s out m (r .lists .rows) (eqb-true _ _ z))
-          (set-fits (length s) m (r .lists .rows) (set-named (r .answer) (r .lists) (length s) m e (h .is)))
-          (rw e at u))
-          (λ z. refl)
 
 -- ---- a GET of one row
 
@@ -272,35 +190,37 @@ module _ (tag : Tag) (t out : List ℕ) (q : Reading) (reads : Reads t q) (id : 
 -- ---- the promises
 
 pub length-kept : LengthKept
-unfolding LengthKept setting sent
+unfolding LengthKept
 length-kept tag s out a w o x =
     let r = x .reading in
-    from-answered x r (x .reads) (λ (e : Effect). length (e .writable) ≡ length (tag .writable))
-    (by-request tag s out (λ (e : Effect). length (e .writable) ≡ length (tag .writable)) (λ q. refl) (λ k. refl) (λ k p. refl) r
-    (λ t m e. by-test (λ (z : Effect). length (z .writable) ≡ length (tag .writable)) (m .mode) (λ t. area m (r .lists .rows)) (λ t. area m (r .lists .rows))))
-  where
-    area : (m : SetRequest) (attributes : List Attribute)
-        → length (pick (eqb (setStatus tag s m attributes) 0) (setRows s (tag .directory) (take (m .count) attributes) (tag .writable)) (tag .writable)) ≡ length (tag .writable)
-    area m attributes =
-        by-test (λ (l : List ℕ). length l ≡ length (tag .writable)) (eqb (setStatus tag s m attributes) 0)
-        (λ t. rows-length s (tag .directory) (take (m .count) attributes) (tag .writable))
-        (λ t. refl)
+    let Q : List ℕ → Type 0 = λ l. length l ≡ length (tag .writable) in
+    from-answered x r (x .reads) (λ (e : Effect). Q (e .writable))
+    (area-after tag s out r (x .reads .sound) Q refl (λ m e d z i. rows-length s (tag .directory) (take (m .count) (r .lists .rows)) (tag .writable)))
 
 pub octet-kept-always : OctetKept
 unfolding OctetKept
-octet-kept-always tag s out a w o x r reads i u = from-answered x r reads (Stays tag s out r i) (octet-stays tag s out r i (reads .sound) u)
+octet-kept-always tag s out a w o x r reads n u =
+    let Q : List ℕ → Type 0 = λ l. take 1 (drop n l) ≡ take 1 (drop n (tag .writable)) in
+    from-answered x r reads (λ (e : Effect). Q (e .writable))
+    (area-after tag s out r (reads .sound) Q refl
+    (λ m e d z i. octet-kept s (tag .directory) (sureOf tag s out m) (tag .factory) n (take (m .count) (r .lists .rows)) (tag .writable) d z i (u m e)))
 
 pub row-kept-always : RowKept
 unfolding RowKept
 row-kept-always tag s out a w o x r reads id k u =
     from-answered x r reads (λ (e : Effect). KeepsRow tag id (e .writable))
-    (requested-kept tag s out id k r (reads .sound) (spared tag s out id k (r .answer) (r .lists .rows) u))
+    (area-after tag s out r (reads .sound) (KeepsRow tag id) (record { so = refl })
+    (λ m e d z i. record { so = row-kept s (tag .directory) (sureOf tag s out m) (tag .factory) id k (take (m .count) (r .lists .rows)) (tag .writable) d z i (u m e) }))
 
 pub protected-kept-always : ProtectedKept
 unfolding ProtectedKept
 protected-kept-always tag s out a w o x r reads id k p without =
     from-answered x r reads (λ (e : Effect). KeepsRow tag id (e .writable))
-    (requested-kept tag s out id k r (reads .sound) (guarded tag s out id k p (r .answer) (r .lists .rows) without))
+    (area-after tag s out r (reads .sound) (KeepsRow tag id) (record { so = refl })
+    (λ m e d z i.
+    let l = take (m .count) (r .lists .rows) in
+    let u = unnamed-if (tag .directory) id p l (ap (λ (b : Bool). firstOf (setFaults (tag .directory) b l)) (sym (without m e)) ∙ z) in
+    record { so = row-kept s (tag .directory) (sureOf tag s out m) (tag .factory) id k l (tag .writable) d z i u }))
 
 pub set-then-get-always : SetThenGet
 unfolding SetThenGet LengthKept

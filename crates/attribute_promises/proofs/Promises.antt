@@ -31,7 +31,7 @@ use Rattle.apdu_writing.proofs.RoundTrip.{written-reads}
 use Rattle.directory.specs.declared.Row.{Row}
 use Rattle.directory.specs.Directory.{knownIn, rowOf, soundDirectory}
 use Rattle.attributes.specs.Serving.{Attribute, Tag, Reply, Outcome, refused, refusedAt, silent, replied, Effect, effect, noEntries, exact, denied, getFault, getFaults, idsFrom, rowsOf, valuesIn, getStatus, setStatus, setRow, valueOf, getReply, sent, tooLong, getting, setting, carried, served, byReading, requested, toldOf, leastOutput}
-use Rattle.attribute_promises.specs.Promises.{ShortReplies, ReplyRead, ReadsBack, RepliesReadBack, FaultyKeeps, AgreeOpen, holdsExact, Without, ProtectedUnseen}
+use Rattle.attribute_promises.specs.Promises.{ShortReplies, ReplyRead, ReadsBack, RepliesReadBack, FaultyKeeps, AgreeOpen, GetWithout, ProtectedUnseen}
 use Rattle.attributes.specs.Inside.{tagOf}
 use Rattle.attributes.proofs.ShortReplies.{sent-none, requested-short}
 use Rattle.attribute_promises.proofs.OneEffect.{answer-same, answered-is, from-answered}
@@ -176,25 +176,25 @@ module _ (eid : ℕ) (credentials : List ℕ) (rows : List Row) (f w f' w' : Lis
   same-effect : (o : Outcome) → SameReply (effect o w out) (effect o w' out)
   same-effect o = record { outcome = refl; output = refl }
 
-  carried-blind : (m : Message) (attributes : List Attribute) → holdsExact s credentials m ≡ false → SameReply (carried left s m attributes out) (carried right s m attributes out)
-  unfolding carried holdsExact sent
+  carried-blind : (m : Message) (attributes : List Attribute) → GetWithout s credentials (answer.Message m) → SameReply (carried left s m attributes out) (carried right s m attributes out)
+  unfolding carried sent
   carried-blind (kind.ActionRequest m) attributes h = record { outcome = refl; output = refl }
   carried-blind (kind.ActionResponse m) attributes h = same-effect (refused 24)
   carried-blind (kind.EventRequest m) attributes h = same-effect (refused 24)
   carried-blind (kind.EventResponse m) attributes h = same-effect (refused 24)
   carried-blind (kind.SetRequest m) attributes h = set-blind eid credentials rows f w f' w' s m attributes out
   carried-blind (kind.SetResponse m) attributes h = same-effect (refused 24)
-  carried-blind (kind.GetRequest m) attributes h = get-blind rows f w f' w' agree eid credentials s m out h
+  carried-blind (kind.GetRequest m) attributes h = get-blind rows f w f' w' agree eid credentials s m out (h m refl)
   carried-blind (kind.GetResponse m) attributes h = same-effect (refused 24)
   carried-blind (kind.Bst m) attributes h = same-effect (refused 24)
   carried-blind (kind.Vst m) attributes h = same-effect (refused 24)
 
-  answer-blind : (a : Answer) (attributes : List Attribute) → Without s credentials a → SameReply (byReading left s a attributes out) (byReading right s a attributes out)
+  answer-blind : (a : Answer) (attributes : List Attribute) → GetWithout s credentials a → SameReply (byReading left s a attributes out) (byReading right s a attributes out)
   unfolding byReading
   answer-blind (answer.Refused k p) attributes h = same-effect (refusedAt k p)
   answer-blind (answer.Message m) attributes h = by-cases (served m) (λ t. rw t (carried-blind m attributes h)) (λ t. rw t (same-effect (refused 24)))
 
-  pub request-blind : (r : Reading) → length f ≡ length f' → length w ≡ length w' → Without s credentials (r .answer) → SameReply (requested left s r out) (requested right s r out)
+  pub request-blind : (r : Reading) → length f ≡ length f' → length w ≡ length w' → GetWithout s credentials (r .answer) → SameReply (requested left s r out) (requested right s r out)
   unfolding requested
   request-blind r a b h =
       let first = firstOf (check 1 (ltb (length out) leastOutput) ∷ check 26 (not (soundDirectory (length f') (length w') rows)) ∷ []) in

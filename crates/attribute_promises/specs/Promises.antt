@@ -11,7 +11,7 @@
 use Prim.Native.Nat.{ℕ, _+_, _<_, _≤_}
 use mathlib.Core.Path.{_≡_}
 use mathlib.Core.List.{List, [], _∷_, _++_}
-use mathlib.Core.Bool.{Bool, true, false}
+use mathlib.Core.Bool.{true, false}
 use mathlib.Core.Logic.{_⊎_}
 use lib.Dec.{ltb}
 use lib.ListN.{length, take, drop}
@@ -21,7 +21,6 @@ use Rattle.apdu_format.specs.Reading.{readMessage}
 use Rattle.apdu_format.specs.Reading.{Outcome as ReadOutcome, refused as unread, message as read}
 use Rattle.apdu_format.specs.RoundTrip.{ReadAs}
 use Rattle.apdu.specs.Values.{valuesOf}
-use Rattle.apdu.specs.declared.records.Message.{Message}
 use Rattle.apdu.specs.declared.records.Message.the-variants as kind
 use Rattle.apdu_reading.specs.declared.front.Answer.{Answer}
 use Rattle.apdu_reading.specs.declared.front.Answer.the-variants as answer
@@ -71,28 +70,16 @@ FaultyKeeps =
 pub record AgreeOpen (rows : List Row) (f w f' w' : List ℕ) : Type 0 where
   pub so : (id : ℕ) → rowOf id rows .protected ≡ false → valueOf f w (rowOf id rows) ≡ valueOf f' w' (rowOf id rows)
 
--- the request carries the tag's exact credentials
-unfoldable pub holdsExact : List ℕ → List ℕ → Message → Bool
-holdsExact s credentials (kind.ActionRequest m) = false
-holdsExact s credentials (kind.ActionResponse m) = false
-holdsExact s credentials (kind.EventRequest m) = false
-holdsExact s credentials (kind.EventResponse m) = false
-holdsExact s credentials (kind.SetRequest m) = exact s credentials (m .«has_credentials») (m .credentials) (m .«credentials_length»)
-holdsExact s credentials (kind.SetResponse m) = false
-holdsExact s credentials (kind.GetRequest m) = exact s credentials (m .«has_credentials») (m .credentials) (m .«credentials_length»)
-holdsExact s credentials (kind.GetResponse m) = false
-holdsExact s credentials (kind.Bst m) = false
-holdsExact s credentials (kind.Vst m) = false
+-- a GET without the tag's exact credentials, or another request
+abbrev pub GetWithout : List ℕ → List ℕ → Answer → Type 0
+GetWithout s credentials a =
+    (m : GetRequest) → a ≡ answer.Message (kind.GetRequest m) → exact s credentials (m .«has_credentials») (m .credentials) (m .«credentials_length») ≡ false
 
-abbrev pub Without : List ℕ → List ℕ → Answer → Type 0
-Without s credentials (answer.Refused k p) = Unit {0}
-Without s credentials (answer.Message m) = holdsExact s credentials m ≡ false
-
--- two tags that differ only in octets of protected rows give the same answer and the same output
+-- two tags that differ only in octets of protected rows give the same answer and the same output; a SET shows no octet of a tag at all
 unfoldable pub ProtectedUnseen : Type 0
 ProtectedUnseen =
     (eid : ℕ) (credentials : List ℕ) (rows : List Row) (f v f' v' : List ℕ) → AgreeOpen rows f v f' v' → length f ≡ length f' → length v ≡ length v'
-    → (s out : List ℕ) (r : Reading) → Reads s r → Without s credentials (r .answer) → (a b : RequestAnswer) (w w' o o' : List ℕ)
+    → (s out : List ℕ) (r : Reading) → Reads s r → GetWithout s credentials (r .answer) → (a b : RequestAnswer) (w w' o o' : List ℕ)
     → Answered (tagOf eid credentials rows f v) s out a w o → Answered (tagOf eid credentials rows f' v') s out b w' o' → (a ≡ b) × (o ≡ o')
 
 -- ---- the writable area after a call
@@ -105,20 +92,6 @@ abbrev pub Unnamed : ℕ → List Attribute → Type 0
 Unnamed id [] = Unit {0}
 Unnamed id (a ∷ rest) = (a .id ≡ id → ⊥) × Unnamed id rest
 
--- the attributes that a request sets
-unfoldable pub namedBy : Answer → List Attribute → List Attribute
-namedBy (answer.Refused k p) attributes = []
-namedBy (answer.Message (kind.ActionRequest m)) attributes = []
-namedBy (answer.Message (kind.ActionResponse m)) attributes = []
-namedBy (answer.Message (kind.EventRequest m)) attributes = []
-namedBy (answer.Message (kind.EventResponse m)) attributes = []
-namedBy (answer.Message (kind.SetRequest m)) attributes = take (m .count) attributes
-namedBy (answer.Message (kind.SetResponse m)) attributes = []
-namedBy (answer.Message (kind.GetRequest m)) attributes = []
-namedBy (answer.Message (kind.GetResponse m)) attributes = []
-namedBy (answer.Message (kind.Bst m)) attributes = []
-namedBy (answer.Message (kind.Vst m)) attributes = []
-
 -- octet i of the writable area lies in no row that these attributes name
 abbrev pub Outside : ℕ → List Row → List Attribute → Type 0
 Outside i rows [] = Unit {0}
@@ -129,7 +102,8 @@ Outside i rows (x ∷ rest) =
 unfoldable pub OctetKept : Type 0
 OctetKept =
     (tag : Tag) (s out : List ℕ) (a : RequestAnswer) (w o : List ℕ) → Answered tag s out a w o → (r : Reading) → Reads s r
-    → (i : ℕ) → Outside i (tag .directory) (namedBy (r .answer) (r .lists .rows)) → take 1 (drop i w) ≡ take 1 (drop i (tag .writable))
+    → (i : ℕ) → ((m : SetRequest) → r .answer ≡ answer.Message (kind.SetRequest m) → Outside i (tag .directory) (take (m .count) (r .lists .rows)))
+    → take 1 (drop i w) ≡ take 1 (drop i (tag .writable))
 
 -- the row of an id keeps its octets
 pub record KeepsRow (tag : Tag) (id : ℕ) (w : List ℕ) : Type 0 where
@@ -139,13 +113,18 @@ pub record KeepsRow (tag : Tag) (id : ℕ) (w : List ℕ) : Type 0 where
 unfoldable pub RowKept : Type 0
 RowKept =
     (tag : Tag) (s out : List ℕ) (a : RequestAnswer) (w o : List ℕ) → Answered tag s out a w o → (r : Reading) → Reads s r
-    → (id : ℕ) → knownIn id (tag .directory) ≡ true → Unnamed id (namedBy (r .answer) (r .lists .rows)) → KeepsRow tag id w
+    → (id : ℕ) → knownIn id (tag .directory) ≡ true
+    → ((m : SetRequest) → r .answer ≡ answer.Message (kind.SetRequest m) → Unnamed id (take (m .count) (r .lists .rows))) → KeepsRow tag id w
 
--- and so does a protected row, unless the request carries the tag's exact credentials
+-- and so does a protected row, unless a SET carries the tag's exact credentials
+abbrev pub SetWithout : List ℕ → List ℕ → Answer → Type 0
+SetWithout s credentials a =
+    (m : SetRequest) → a ≡ answer.Message (kind.SetRequest m) → exact s credentials (m .«has_credentials») (m .credentials) (m .«credentials_length») ≡ false
+
 unfoldable pub ProtectedKept : Type 0
 ProtectedKept =
     (tag : Tag) (s out : List ℕ) (a : RequestAnswer) (w o : List ℕ) → Answered tag s out a w o → (r : Reading) → Reads s r
-    → (id : ℕ) → knownIn id (tag .directory) ≡ true → rowOf id (tag .directory) .protected ≡ true → Without s (tag .credentials) (r .answer) → KeepsRow tag id w
+    → (id : ℕ) → knownIn id (tag .directory) ≡ true → rowOf id (tag .directory) .protected ≡ true → SetWithout s (tag .credentials) (r .answer) → KeepsRow tag id w
 
 -- the tag with the writable area that a call leaves
 abbrev pub afterwards : Tag → List ℕ → Tag
