@@ -130,8 +130,7 @@ module _ (tag : Tag) (s out : List ℕ) where
         (by-test (λ (e : Effect). e .writable ≡ setRows s (tag .directory) (take (g .m .count) (r .lists .rows)) (tag .writable)) (g .m .mode) (λ t. rw (g .fine)) (λ t. rw (g .fine)))
 
     inside : partsFit (length s) (take (g .m .count) (r .lists .rows)) ≡ true
-    unfolding soundBy sound
-    inside = set-fits (length s) (g .m) (r .lists .rows) (rw (g .is) at (h .is))
+    inside = set-fits (length s) (g .m) (r .lists .rows) (set-named (r .answer) (r .lists) (length s) (g .m) (g .is) (h .is))
 
     no-fault-listed : firstOf (setFaults (tag .directory) (sureOf (g .m)) (g .before ++ (a ∷ g .behind))) ≡ 0
     no-fault-listed = ap (λ (l : List Attribute). firstOf (setFaults (tag .directory) (sureOf (g .m)) l)) (sym (g .list)) ∙ no-fault (g .m) (r .lists .rows) (g .fine)

@@ -1,4 +1,4 @@
--- The promises of specs/Promises.antt, each of every tag, request and output.
+-- Replies are short and read back, a SET with a fault writes nothing, protected rows are unseen; and what one attribute of a SET leaves in an area.
 -- Assumes nothing.
 use Prim.Native.Nat.{ℕ, _+_, _-_, _<_, _≤_}
 use mathlib.Core.Path.{_≡_, refl, ap, ap₂, sym, _∙_}

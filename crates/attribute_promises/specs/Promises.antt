@@ -1,11 +1,11 @@
 -- What is proved of the request call besides its definition (01, "Reading and setting attributes"); each statement is a clause of `request_among`. No reply
 -- is longer than 512 octets (ShortReplies), and each reads back as the message that is sent (RepliesReadBack). A SET with a fault writes nothing
 -- (FaultyKeeps), and a refused call changes nothing (RefusalKeeps). Without the tag's exact credentials the octets of protected rows play no part in an
--- answer (ProtectedUnseen). The writable area keeps its length (LengthKept) and every octet that lies in no row which a SET names (OctetKept); so
--- does a row that no SET names (RowKept), and a protected row without the tag's exact credentials (ProtectedKept). A GET after a SET gives the value set
--- (SetThenGet). The request's octets and the tag leave one answer,
--- one writable area and one output (OneEffect, Determined). The call has 01's refusals, in 01's order, and no others (RefusesOnly).
--- In each statement s are the request's octets and out the output before the call, a is its answer, w and o are the writable area and the output
+-- answer (ProtectedUnseen). The writable area keeps its length (LengthKept) and every octet that lies in no row which a SET names (OctetKept); a row that no
+-- SET names keeps its octets (RowKept), and so does a protected row without the tag's exact credentials (ProtectedKept). A GET after a SET gives the value
+-- set (SetThenGet). The request's octets and the tag leave one answer, one writable area and one output (OneEffect, Determined). The call has 01's refusals,
+-- in 01's order, and no others (RefusesOnly).
+-- In each statement s are the request's octets and out is the output before the call, a is its answer, w and o are the writable area and the output
 -- afterwards, and r is the record that reading makes of s.
 -- Assumes nothing.
 use Prim.Native.Nat.{ℕ, _+_, _<_, _≤_}
@@ -43,11 +43,11 @@ unfoldable pub ShortReplies : Type 0
 ShortReplies =
     (tag : Tag) (s out : List ℕ) (a : RequestAnswer) (w o : List ℕ) → Answered tag s out a w o → (n : ℕ) → a .outcome ≡ outcome.Reply n → n ≤ 512
 
--- the octets of a reply
+-- these octets are read, to their end, as the message of this reply
 abbrev pub ReplyRead : Reply → List ℕ → Type 0
 ReplyRead q octets = ReadAs octets (valuesOf (q .lent) (q .message) noEntries (q .attributes))
 
--- some reply is sent, and the n octets at the output's front are read, to their end, as its message
+-- what is sent is a reply, and the n octets at the output's front are read as its message
 pub record ReadsBack (out : List ℕ) (n : ℕ) (w o : List ℕ) : Type 0 where
   pub reply : Reply
   pub is : effect (replied n) w o ≡ sent reply w out
