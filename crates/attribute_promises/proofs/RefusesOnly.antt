@@ -2,9 +2,10 @@
 -- GET whose values are too long; the rest of each reply is proved fine in Replies.antt and GetValues.antt.
 -- Assumes nothing.
 use Prim.Native.Nat.{ℕ, _≤_}
-use mathlib.Core.Path.{_≡_, refl, ap, sym, _∙_}
+use mathlib.Core.Path.{_≡_, refl, ap, sym, _∙_, subst}
 use mathlib.Core.Bool.{Bool, true}
 use mathlib.Core.List.{List, [], _∷_}
+use mathlib.Core.Logic.{inl, inr}
 use native.Mathlib.Omega.{arith}
 use lib.Dec.{eqb, ltb}
 use lib.ListN.{length, take}
@@ -28,13 +29,30 @@ use Rattle.apdu_reading.specs.Answers.{told, outcomeOf, soundBy, Reads}
 use Rattle.apdu_reading.proofs.Encoded.{record-encodes}
 use Rattle.directory.specs.declared.Row.{Row}
 use Rattle.directory.specs.Directory.{soundDirectory}
-use Rattle.attributes.specs.Serving.{leastOutput, Attribute, Tag, Reply, Effect, sent, tooLong, getFault, getFaults, getStatus, getReply, getting, setFault, setFaults, setStatus, setting, served, carried, byReading, requested}
+use Rattle.attributes.specs.declared.answers.RequestOutcome.{RequestOutcome}
+use Rattle.attributes.specs.declared.answers.RequestOutcome.the-variants as outcome
+use Rattle.attributes.specs.Serving.{leastOutput, Attribute, Tag, Reply, Outcome, refused, refusedAt, silent, replied, Effect, sent, tooLong, getFault, getFaults, getStatus, getReply, getting, setFault, setFaults, setStatus, setting, served, carried, byReading, requested, toldOf}
 use Rattle.attributes.proofs.Ranges.{read-fits, fits-get}
-use Rattle.attribute_promises.specs.Promises.{none, refusalIn, firstRefusal, unreadable, unserved, RefusesOnly}
+use Rattle.attribute_promises.specs.Promises.{Refusal, none, number, numberAt, Refuses, firstRefusal, refusalOf, unreadable, unserved, RefusesOnly}
 use Rattle.attribute_promises.proofs.OneEffect.{answered-is}
 use Rattle.attribute_promises.proofs.Repeated.{Repeats, set-repeats, get-repeats, echoes}
 use Rattle.attribute_promises.proofs.Replies.{Fine, sent-fine, set-fine, get-fine, echo-fine}
 use Rattle.attribute_promises.proofs.GetValues.{values-sent}
+
+-- ---- what an outcome refuses
+
+unfoldable refusalIn : Outcome → Refusal
+refusalIn (refused k) = number k
+refusalIn (refusedAt k p) = numberAt k p
+refusalIn silent = none
+refusalIn (replied n) = none
+
+outcome-refuses : (o : RequestOutcome) → Refuses (refusalIn (toldOf o)) o
+unfolding refusalIn toldOf
+outcome-refuses (outcome.Refused k) = refl
+outcome-refuses (outcome.RefusedAt k p) = refl
+outcome-refuses outcome.NoReply = inl refl
+outcome-refuses (outcome.Reply n) = inr (record { n = n; is = refl })
 
 -- ---- statuses
 
@@ -121,10 +139,12 @@ module _ (tag : Tag) (s out : List ℕ) (room : leastOutput ≤ length out) wher
 pub refuses-only : RefusesOnly
 unfolding RefusesOnly requested firstOf refusalIn firstRefusal
 refuses-only tag s out a w o x r reads =
-    ap (λ (e : Effect). refusalIn (e .outcome)) (answered-is x r reads)
+    subst (λ (z : Refusal). Refuses z (a .outcome)) {y = refusalOf tag s out (r .answer)}
+    (ap (λ (e : Effect). refusalIn (e .outcome)) (answered-is x r reads)
     ∙ by-cases (ltb (length out) leastOutput)
     (λ t. rw t)
     (λ t.
     by-cases (soundDirectory (length (tag .factory)) (length (tag .writable)) (tag .directory))
     (λ u. rw (t, u) (answer-refuses tag s out (ltb-false (length out) leastOutput t) u r reads (r .answer) refl))
-    (λ u. rw (t, u)))
+    (λ u. rw (t, u))))
+    (outcome-refuses (a .outcome))

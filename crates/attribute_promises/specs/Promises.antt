@@ -31,8 +31,9 @@ use Rattle.apdu.specs.declared.records.GetRequest.{GetRequest}
 use Rattle.bits.specs.Strings.{stringAt}
 use Rattle.directory.specs.declared.Row.{Row}
 use Rattle.directory.specs.Directory.{soundDirectory, knownIn, rowOf}
-use Rattle.attributes.specs.Serving.{leastOutput, Attribute, Tag, Reply, Outcome, refused, refusedAt, silent, replied, effect, noEntries, valueOf, exact, idsFrom, getStatus, served, setStatus, sent, requested, toldOf, Answered}
+use Rattle.attributes.specs.Serving.{leastOutput, Attribute, Tag, Reply, replied, effect, noEntries, valueOf, exact, idsFrom, getStatus, served, setStatus, sent, requested, Answered}
 use Rattle.attributes.specs.Inside.{tagOf}
+use Rattle.attributes.specs.declared.answers.RequestOutcome.{RequestOutcome}
 use Rattle.attributes.specs.declared.answers.RequestOutcome.the-variants as outcome
 use Rattle.attributes.specs.declared.answers.RequestAnswer.{RequestAnswer}
 
@@ -87,16 +88,18 @@ ProtectedUnseen =
 unfoldable pub LengthKept : Type 0
 LengthKept = (tag : Tag) (s out : List ℕ) (a : RequestAnswer) (w o : List ℕ) → Answered tag s out a w o → length w ≡ length (tag .writable)
 
--- no attribute has this id
-abbrev pub Unnamed : ℕ → List Attribute → Type 0
-Unnamed id [] = Unit {0}
-Unnamed id (a ∷ rest) = (a .id ≡ id → ⊥) × Unnamed id rest
+-- each of these attributes is so
+abbrev pub Each : (Attribute → Type 0) → List Attribute → Type 0
+Each P [] = Unit {0}
+Each P (x ∷ rest) = P x × Each P rest
 
--- octet i of the writable area lies in no row that these attributes name
+-- none has this id
+abbrev pub Unnamed : ℕ → List Attribute → Type 0
+Unnamed id = Each (λ (x : Attribute). x .id ≡ id → ⊥)
+
+-- octet i of the writable area lies in none of their rows
 abbrev pub Outside : ℕ → List Row → List Attribute → Type 0
-Outside i rows [] = Unit {0}
-Outside i rows (x ∷ rest) =
-    ((i < rowOf (x .id) rows .start) ⊎ (rowOf (x .id) rows .start + rowOf (x .id) rows .length ≤ i)) × Outside i rows rest
+Outside i rows = Each (λ (x : Attribute). (i < rowOf (x .id) rows .start) ⊎ (rowOf (x .id) rows .start + rowOf (x .id) rows .length ≤ i))
 
 -- an octet in no row that a SET names stays, whatever is answered
 unfoldable pub OctetKept : Type 0
@@ -209,12 +212,15 @@ pub data Refusal : Type 0 where
   number : ℕ → Refusal
   numberAt : ℕ → ℕ → Refusal
 
--- silence and a reply are no refusal
-unfoldable pub refusalIn : Outcome → Refusal
-refusalIn (refused k) = number k
-refusalIn (refusedAt k p) = numberAt k p
-refusalIn silent = none
-refusalIn (replied n) = none
+pub record Replies (o : RequestOutcome) : Type 0 where
+  pub n : ℕ
+  pub is : o ≡ outcome.Reply n
+
+-- the answer with this refusal; without one it is no reply, or a reply
+abbrev pub Refuses : Refusal → RequestOutcome → Type 0
+Refuses none o = (o ≡ outcome.NoReply) ⊎ Replies o
+Refuses (number k) o = o ≡ outcome.Refused k
+Refuses (numberAt k p) o = o ≡ outcome.RefusedAt k p
 
 unfoldable pub firstRefusal : List Refusal → Refusal
 firstRefusal [] = none
@@ -238,8 +244,12 @@ unfoldable pub unserved : Answer → Refusal
 unserved (answer.Refused k p) = none
 unserved (answer.Message m) = pick (served m) none (number 24)
 
--- the first of these that holds is the call's refusal, and there is no other: a request that passes them has its reply, or the silence of a SET with mode 0
+-- the first of these that holds
+abbrev pub refusalOf : Tag → List ℕ → List ℕ → Answer → Refusal
+refusalOf tag s out a = firstRefusal (smallOutput out ∷ unsoundDirectory tag ∷ unreadable (readMessage s) ∷ unserved a ∷ [])
+
+-- is the call's refusal, and there is no other: a request that passes them has its reply, or the silence of a SET with mode 0
 unfoldable pub RefusesOnly : Type 0
 RefusesOnly =
     (tag : Tag) (s out : List ℕ) (a : RequestAnswer) (w o : List ℕ) → Answered tag s out a w o → (r : Reading) → Reads s r
-    → refusalIn (toldOf (a .outcome)) ≡ firstRefusal (smallOutput out ∷ unsoundDirectory tag ∷ unreadable (readMessage s) ∷ unserved (r .answer) ∷ [])
+    → Refuses (refusalOf tag s out (r .answer)) (a .outcome)
