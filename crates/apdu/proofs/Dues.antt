@@ -10,7 +10,7 @@ use Rattle.refusals.proofs.Tests.{by_cases}
 use Rattle.apdu_format.specs.Component.{Component}
 use Rattle.apdu_format.specs.Rules.{times}
 use Rattle.apdu.specs.declared.due.Due.{Due}
-use Rattle.apdu.specs.RowCounters.{row, levelOf, afterRow, total, dueList}
+use Rattle.apdu.specs.RowCounters.{row, level_of, after_row, total, due_list}
 
 times_more : (n : ℕ) (is : List Component) → (n ≡ 0 → ⊥) → times n is ≡ is ++ times (n - 1) is
 unfolding times
@@ -21,13 +21,13 @@ first_more : (n d : ℕ) (rest : List Component) → (n ≡ 0 → ⊥) → times
 first_more n d rest h = ap (λ (l : List Component). l ++ rest) (times_more n (row d) h) ∙ append_assoc (row d) (times (n - 1) (row d)) rest
 
 abbrev Front : Due → Type 0
-Front u = dueList u ≡ row (levelOf u) ++ dueList (afterRow u 0)
+Front u = due_list u ≡ row (level_of u) ++ due_list (after_row u 0)
 
 abbrev More : Due → ℕ → Type 0
-More u n = dueList (afterRow u n) ≡ times n (row (suc (levelOf u))) ++ dueList (afterRow u 0)
+More u n = due_list (after_row u n) ≡ times n (row (suc (level_of u))) ++ due_list (after_row u 0)
 
 abbrev Sums : Due → ℕ → Type 0
-Sums u n = total (afterRow u n) + 1 ≡ total u + n
+Sums u n = total (after_row u n) + 1 ≡ total u + n
 
 module _ (u : Due) where
   abbrev l1 : List Component
@@ -43,9 +43,9 @@ module _ (u : Due) where
   l4 = times u.d4 (row 4) ++ l3
 
   -- the next row
-  pub due-front : 0 < total u → Front u
-  unfolding dueList levelOf afterRow times
-  due-front h =
+  pub due_front : 0 < total u → Front u
+  unfolding due_list level_of after_row times
+  due_front h =
       by_cases (eqb u.d5 0)
       (λ a5. let e5 = eqb-true u.d5 0 a5 in
       by_cases (eqb u.d4 0)
@@ -60,9 +60,9 @@ module _ (u : Due) where
       (λ a5. rw a5 (first_more u.d5 5 l4 (eqb-false u.d5 0 a5)))
 
   -- what is due behind a row that announces n rows
-  pub due-more : (n : ℕ) → (levelOf u ≡ 5 → n ≡ 0) → More u n
-  unfolding dueList levelOf afterRow times
-  due-more n =
+  pub due_more : (n : ℕ) → (level_of u ≡ 5 → n ≡ 0) → More u n
+  unfolding due_list level_of after_row times
+  due_more n =
       by_cases (eqb u.d5 0)
       (λ a5.
       by_cases (eqb u.d4 0)
@@ -76,9 +76,9 @@ module _ (u : Due) where
       (λ a4 h. rw (a5, a4)))
       (λ a5 h. rw (a5, h (rw a5)))
 
-  pub due-sums : (n : ℕ) → 0 < total u → (levelOf u ≡ 5 → n ≡ 0) → Sums u n
-  unfolding levelOf afterRow
-  due-sums n h =
+  pub due_sums : (n : ℕ) → 0 < total u → (level_of u ≡ 5 → n ≡ 0) → Sums u n
+  unfolding level_of after_row
+  due_sums n h =
       by_cases (eqb u.d5 0)
       (λ a5. let e5 = eqb-true u.d5 0 a5 in
       by_cases (eqb u.d4 0)
@@ -88,33 +88,33 @@ module _ (u : Due) where
       by_cases (eqb u.d2 0)
       (λ a2 k.
       let e2 = eqb-true u.d2 0 a2 in
-      let e : afterRow u n ≡ record { d1 = u.d1 - 1; d2 = n; d3 = 0; d4 = 0; d5 = 0 } = rw (a5, a4, a3, a2) in
+      let e : after_row u n ≡ record { d1 = u.d1 - 1; d2 = n; d3 = 0; d4 = 0; d5 = 0 } = rw (a5, a4, a3, a2) in
       sums e (omega arith))
       (λ a2 k.
       let e2 = eqb-false u.d2 0 a2 in
-      let e : afterRow u n ≡ record { d1 = u.d1; d2 = u.d2 - 1; d3 = n; d4 = 0; d5 = 0 } = rw (a5, a4, a3, a2) in
+      let e : after_row u n ≡ record { d1 = u.d1; d2 = u.d2 - 1; d3 = n; d4 = 0; d5 = 0 } = rw (a5, a4, a3, a2) in
       sums e (omega (arith, e2))))
       (λ a3 k.
       let e3 = eqb-false u.d3 0 a3 in
-      let e : afterRow u n ≡ record { d1 = u.d1; d2 = u.d2; d3 = u.d3 - 1; d4 = n; d5 = 0 } = rw (a5, a4, a3) in
+      let e : after_row u n ≡ record { d1 = u.d1; d2 = u.d2; d3 = u.d3 - 1; d4 = n; d5 = 0 } = rw (a5, a4, a3) in
       sums e (omega (arith, e3))))
       (λ a4 k.
       let e4 = eqb-false u.d4 0 a4 in
-      let e : afterRow u n ≡ record { d1 = u.d1; d2 = u.d2; d3 = u.d3; d4 = u.d4 - 1; d5 = n } = rw (a5, a4) in
+      let e : after_row u n ≡ record { d1 = u.d1; d2 = u.d2; d3 = u.d3; d4 = u.d4 - 1; d5 = n } = rw (a5, a4) in
       sums e (omega (arith, e4))))
       (λ a5 k.
       let e5 = eqb-false u.d5 0 a5 in
       let z : n ≡ 0 = k (rw a5) in
-      let e : afterRow u n ≡ record { d1 = u.d1; d2 = u.d2; d3 = u.d3; d4 = u.d4; d5 = u.d5 - 1 } = rw a5 in
+      let e : after_row u n ≡ record { d1 = u.d1; d2 = u.d2; d3 = u.d3; d4 = u.d4; d5 = u.d5 - 1 } = rw a5 in
       sums e (omega (arith, e5)))
     where
       sums : {v w : Due} → v ≡ w → total w + 1 ≡ total u + n → total v + 1 ≡ total u + n
       sums e m = rw e m
 
   -- none is due
-  pub due-none : total u ≡ 0 → dueList u ≡ []
-  unfolding dueList times
-  due-none h =
+  pub due_none : total u ≡ 0 → due_list u ≡ []
+  unfolding due_list times
+  due_none h =
       let e5 : u.d5 ≡ 0 = omega arith in
       let e4 : u.d4 ≡ 0 = omega arith in
       let e3 : u.d3 ≡ 0 = omega arith in
@@ -131,16 +131,16 @@ two n = record { d1 = 0; d2 = n; d3 = 0; d4 = 0; d5 = 0 }
 abbrev pub one : ℕ → Due
 one n = record { d1 = n; d2 = 0; d3 = 0; d4 = 0; d5 = 0 }
 
-pub due-two : (n : ℕ) → dueList (two n) ≡ times n (row 2)
-unfolding dueList times
-due-two n = append-nil (times n (row 2))
+pub due_two : (n : ℕ) → due_list (two n) ≡ times n (row 2)
+unfolding due_list times
+due_two n = append-nil (times n (row 2))
 
-pub due-one : (n : ℕ) → dueList (one n) ≡ times n (row 1)
-unfolding dueList times
-due-one n = refl
+pub due_one : (n : ℕ) → due_list (one n) ≡ times n (row 1)
+unfolding due_list times
+due_one n = refl
 
-pub total-two : (n : ℕ) → total (two n) ≡ n
-total-two n = omega arith
+pub total_two : (n : ℕ) → total (two n) ≡ n
+total_two n = omega arith
 
-pub total-one : (n : ℕ) → total (one n) ≡ n
-total-one n = omega arith
+pub total_one : (n : ℕ) → total (one n) ≡ n
+total_one n = omega arith

@@ -2,9 +2,9 @@
 -- Assumes nothing.
 use mathlib.Core.Path.{refl}
 use Rattle.apdu_format.specs.Rules.{times}
-use Rattle.apdu.specs.RowCounters.{levelOf, afterRow, dueList}
+use Rattle.apdu.specs.RowCounters.{level_of, after_row, due_list}
 use Rattle.apdu.specs.RowCounterCases.{RowCounterCasesHold}
 
-pub row-counter-cases-hold : RowCounterCasesHold
-unfolding times levelOf afterRow dueList
-row-counter-cases-hold = refl
+pub row_counter_cases_hold : RowCounterCasesHold
+unfolding times level_of after_row due_list
+row_counter_cases_hold = refl

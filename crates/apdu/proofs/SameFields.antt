@@ -8,21 +8,21 @@ use mathlib.Core.List.{List, [], ◌∷◌, ◌++◌}
 use native.Mathlib.Omega.{arith}
 use lib.Dec.{eqb}
 use Rattle.refusals.specs.Check.{pick}
-use Rattle.apdu_format.specs.Component.{octetString, attributeIdList}
+use Rattle.apdu_format.specs.Component.{octet_string, attribute_id_list}
 use Rattle.apdu_format.specs.Reading.{Value}
 use Rattle.apdu_format.proofs.Tests.{never}
-use Rattle.apdu.specs.Values.{bit_of, if, num, num-if, str, idsAt, idList, headValues}
-use Rattle.apdu.specs.Tidy.{Absent, startTidy}
+use Rattle.apdu.specs.Values.{bit_of, if, num, num_if, str, ids_at, id_list, head_values}
+use Rattle.apdu.specs.Tidy.{Absent, start_tidy}
 
-behind-same : (l us vs : List Value) → (l ++ us) ≡ (l ++ vs) → us ≡ vs
-behind-same [] us vs h = h
-behind-same (v ∷ l) us vs h = behind-same l us vs cc
+behind_same : (l us vs : List Value) → (l ++ us) ≡ (l ++ vs) → us ≡ vs
+behind_same [] us vs h = h
+behind_same (v ∷ l) us vs h = behind_same l us vs cc
 
-pub bit-same : (p q : Bool) → bit_of p ≡ bit_of q → p ≡ q
-bit-same true true e = refl
-bit-same true false e = absurd (omega arith)
-bit-same false true e = absurd (omega arith)
-bit-same false false e = refl
+pub bit_same : (p q : Bool) → bit_of p ≡ bit_of q → p ≡ q
+bit_same true true e = refl
+bit_same true false e = absurd (omega arith)
+bit_same false true e = absurd (omega arith)
+bit_same false false e = refl
 
 -- ---- a number
 
@@ -30,7 +30,7 @@ pub record NumberSame (a b : ℕ) (us vs : List Value) : Type 0 where
   pub number : a ≡ b
   pub behind : us ≡ vs
 
-pub number_same : (p q : Bool) (a b : ℕ) (us vs : List Value) → p ≡ q → Absent p (a ∷ []) → Absent q (b ∷ []) → (num-if p a ++ us) ≡ (num-if q b ++ vs)
+pub number_same : (p q : Bool) (a b : ℕ) (us vs : List Value) → p ≡ q → Absent p (a ∷ []) → Absent q (b ∷ []) → (num_if p a ++ us) ≡ (num_if q b ++ vs)
     → NumberSame a b us vs
 number_same true true a b us vs e x y h = record { number = cc; behind = cc }
 number_same true false a b us vs e x y h = never (sym e)
@@ -62,38 +62,38 @@ pub record HeadSame (k n a l m b : ℕ) (us vs : List Value) : Type 0 where
   pub behind : us ≡ vs
 
 module _ (s : List ℕ) where
-  string-given : (a n b k : ℕ) (us vs : List Value) → (str s a n ++ us) ≡ (str s b k ++ vs) → PartSame a n b k us vs
-  string-given a n b k us vs h = record { place = cc; long = cc; behind = cc }
+  string_given : (a n b k : ℕ) (us vs : List Value) → (str s a n ++ us) ≡ (str s b k ++ vs) → PartSame a n b k us vs
+  string_given a n b k us vs h = record { place = cc; long = cc; behind = cc }
 
-  pub ids-given : (a n b k : ℕ) (us vs : List Value) → (idList s a n ++ us) ≡ (idList s b k ++ vs) → PartSame a n b k us vs
-  ids-given a n b k us vs h =
+  pub ids_given : (a n b k : ℕ) (us vs : List Value) → (id_list s a n ++ us) ≡ (id_list s b k ++ vs) → PartSame a n b k us vs
+  ids_given a n b k us vs h =
       let e : a ≡ b = cc in
       let f : n ≡ k = cc in
-      let g : (idsAt s a n ++ us) ≡ (idsAt s b k ++ vs) = cc in
-      record { place = e; long = f; behind = behind-same (idsAt s b k) us vs (rw (e, f) at g) }
+      let g : (ids_at s a n ++ us) ≡ (ids_at s b k ++ vs) = cc in
+      record { place = e; long = f; behind = behind_same (ids_at s b k) us vs (rw (e, f) at g) }
 
-  pub string-same : (p q : Bool) (a n b k : ℕ) (us vs : List Value) → p ≡ q → Absent p (a ∷ n ∷ []) → Absent q (b ∷ k ∷ [])
+  pub string_same : (p q : Bool) (a n b k : ℕ) (us vs : List Value) → p ≡ q → Absent p (a ∷ n ∷ []) → Absent q (b ∷ k ∷ [])
       → (if p (str s a n) ++ us) ≡ (if q (str s b k) ++ vs) → PartSame a n b k us vs
-  string-same = part_same (str s) string-given
+  string_same = part_same (str s) string_given
 
-  pub ids-same : (p q : Bool) (a n b k : ℕ) (us vs : List Value) → p ≡ q → Absent p (a ∷ n ∷ []) → Absent q (b ∷ k ∷ [])
-      → (if p (idList s a n) ++ us) ≡ (if q (idList s b k) ++ vs) → PartSame a n b k us vs
-  ids-same = part_same (idList s) ids-given
+  pub ids_same : (p q : Bool) (a n b k : ℕ) (us vs : List Value) → p ≡ q → Absent p (a ∷ n ∷ []) → Absent q (b ∷ k ∷ [])
+      → (if p (id_list s a n) ++ us) ≡ (if q (id_list s b k) ++ vs) → PartSame a n b k us vs
+  ids_same = part_same (id_list s) ids_given
 
   abbrev content : Bool → Bool → ℕ → ℕ → List Value
-  content x y n a = pick x (str s a n) (pick y (idList s a n) (num n ∷ []))
+  content x y n a = pick x (str s a n) (pick y (id_list s a n) (num n ∷ []))
 
-  content-same : (x y : Bool) (n a m b : ℕ) (us vs : List Value) → Absent (x || y) (a ∷ []) → Absent (x || y) (b ∷ [])
+  content_same : (x y : Bool) (n a m b : ℕ) (us vs : List Value) → Absent (x || y) (a ∷ []) → Absent (x || y) (b ∷ [])
       → (content x y n a ++ us) ≡ (content x y m b ++ vs) → PartSame a n b m us vs
-  content-same true y n a m b us vs t u h = string-given a n b m us vs h
-  content-same false true n a m b us vs t u h = ids-given a n b m us vs h
-  content-same false false n a m b us vs t u h = record { place = (t.are refl).0 ∙ sym (u.are refl).0; long = cc; behind = cc }
+  content_same true y n a m b us vs t u h = string_given a n b m us vs h
+  content_same false true n a m b us vs t u h = ids_given a n b m us vs h
+  content_same false false n a m b us vs t u h = record { place = (t.are refl).0 ∙ sym (u.are refl).0; long = cc; behind = cc }
 
-  pub head-same : (k n a l m b : ℕ) (us vs : List Value) → startTidy k a → startTidy l b → (headValues s k n a ++ us) ≡ (headValues s l m b ++ vs)
+  pub head_same : (k n a l m b : ℕ) (us vs : List Value) → start_tidy k a → start_tidy l b → (head_values s k n a ++ us) ≡ (head_values s l m b ++ vs)
       → HeadSame k n a l m b us vs
-  unfolding headValues
-  head-same k n a l m b us vs t u h =
+  unfolding head_values
+  head_same k n a l m b us vs t u h =
       let e : k ≡ l = cc in
-      let g : (content (eqb k octetString) (eqb k attributeIdList) n a ++ us) ≡ (content (eqb l octetString) (eqb l attributeIdList) m b ++ vs) = cc in
-      let c = content-same (eqb l octetString) (eqb l attributeIdList) n a m b us vs (rw e at t) u (rw e at g) in
+      let g : (content (eqb k octet_string) (eqb k attribute_id_list) n a ++ us) ≡ (content (eqb l octet_string) (eqb l attribute_id_list) m b ++ vs) = cc in
+      let c = content_same (eqb l octet_string) (eqb l attribute_id_list) n a m b us vs (rw e at t) u (rw e at g) in
       record { kind = e; number = c.long; place = c.place; behind = c.behind }

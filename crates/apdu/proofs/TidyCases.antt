@@ -11,9 +11,9 @@ use Rattle.apdu.specs.declared.lists.Row.{Row}
 use Rattle.apdu.specs.declared.lists.Entry.{Entry}
 use Rattle.apdu.specs.declared.records.Message.{Message}
 use Rattle.apdu.specs.declared.records.Message.TheVariants as kind
-use Rattle.apdu.specs.Values.{emptyRow, emptyEntry, entry_rows, rows_of}
-use Rattle.apdu.specs.Tidy.{zeros, Absent, RowsTidy, EntriesTidy, ListsTidy, entryTidy, rowTidy, messageTidy}
-use Rattle.apdu.proofs.Laws.{zero-tidy}
+use Rattle.apdu.specs.Values.{empty_row, empty_entry, entry_rows, rows_of}
+use Rattle.apdu.specs.Tidy.{zeros, Absent, RowsTidy, EntriesTidy, ListsTidy, entry_tidy, row_tidy, message_tidy}
+use Rattle.apdu.proofs.Laws.{zero_tidy}
 use Rattle.apdu.specs.TidyCases.{Case, cases, Judged, Each, TidyCasesHold}
 
 -- ---- decisions
@@ -43,13 +43,13 @@ is_zero : (n : ℕ) → Dec (n ≡ 0)
 is_zero zero = yes refl
 is_zero (suc n) = no (λ e. omega arith)
 
-all-zero : (ns : List ℕ) → Dec (zeros ns)
-all-zero [] = yes tt
-all-zero (n ∷ ns) = both (is_zero n) (all-zero ns)
+all_zero_law : (ns : List ℕ) → Dec (zeros ns)
+all_zero_law [] = yes tt
+all_zero_law (n ∷ ns) = both (is_zero n) (all_zero_law ns)
 
 absent : (p : Bool) (ns : List ℕ) → Dec (Absent p ns)
 absent true ns = yes (record { are = λ e. absurd (false≢true (sym e)) })
-absent false ns = iff (λ z. record { are = λ e. z }) (λ a. a.are refl) (all-zero ns)
+absent false ns = iff (λ z. record { are = λ e. z }) (λ a. a.are refl) (all_zero_law ns)
 
 -- a record's parts, however many
 ruleset decisions = (four, three, both, absent)
@@ -81,48 +81,48 @@ rest d f (suc used) (x ∷ l) = iff at (λ k j h. k (suc j) (omega arith)) (rest
 
 -- ---- rows and entries
 
-is-empty-row : (r : Row) → Dec (r ≡ emptyRow)
-is-empty-row r =
-    iff (λ z. made _ _ _ _ z.0 z.1.0 z.1.1.0 z.1.1.1.0) (λ e. rw e (refl, (refl, (refl, (refl, tt))))) (all-zero (r.id ∷ r.kind ∷ r.n ∷ r.start ∷ []))
+is_empty_row : (r : Row) → Dec (r ≡ empty_row)
+is_empty_row r =
+    iff (λ z. made _ _ _ _ z.0 z.1.0 z.1.1.0 z.1.1.1.0) (λ e. rw e (refl, (refl, (refl, (refl, tt))))) (all_zero_law (r.id ∷ r.kind ∷ r.n ∷ r.start ∷ []))
   where
-    made : (a b c d : ℕ) → a ≡ 0 → b ≡ 0 → c ≡ 0 → d ≡ 0 → record { id = a; kind = b; n = c; start = d } ≡ emptyRow
+    made : (a b c d : ℕ) → a ≡ 0 → b ≡ 0 → c ≡ 0 → d ≡ 0 → record { id = a; kind = b; n = c; start = d } ≡ empty_row
     made a b c d e f g h = rw (e, f, g, h)
 
-is-empty-entry : (e : Entry) → Dec (e ≡ emptyEntry)
-is-empty-entry e =
+is_empty_entry : (e : Entry) → Dec (e ≡ empty_entry)
+is_empty_entry e =
     iff (λ z. made _ _ _ _ _ _ _ _ z.0 z.1 z.2.0 z.2.1.0 z.2.1.1.0 z.2.1.1.1.0 z.2.1.1.1.1.0 z.2.1.1.1.1.1.0)
     (λ e. rw e (refl, refl, (refl, (refl, (refl, (refl, (refl, (refl, tt))))))))
-    (three (is_false e.has_eid) (both (is_false e.has_parameter) (all-zero (e.aid ∷ e.eid ∷ e.kind ∷ e.rows ∷ e.n ∷ e.start ∷ []))))
+    (three (is_false e.has_eid) (both (is_false e.has_parameter) (all_zero_law (e.aid ∷ e.eid ∷ e.kind ∷ e.rows ∷ e.n ∷ e.start ∷ []))))
   where
     made : (p q : Bool) (a b c d n s : ℕ) → p ≡ false → q ≡ false → a ≡ 0 → b ≡ 0 → c ≡ 0 → d ≡ 0 → n ≡ 0 → s ≡ 0
-        → record { has_eid = p; has_parameter = q; aid = a; eid = b; kind = c; rows = d; n = n; start = s } ≡ emptyEntry
+        → record { has_eid = p; has_parameter = q; aid = a; eid = b; kind = c; rows = d; n = n; start = s } ≡ empty_entry
     made p q a b c d n s e f g h i j k l = rw (e, f, g, h, i, j, k, l)
 
-rows-tidy : (used : ℕ) (rs : List Row) → Dec (RowsTidy used rs)
-rows-tidy used rs =
+rows_tidy : (used : ℕ) (rs : List Row) → Dec (RowsTidy used rs)
+rows_tidy used rs =
     iff (λ t. record { each = t.0; rest = t.1 }) (λ t. (t.each, t.rest))
-    (both (each rowTidy emptyRow zero-tidy (λ r. absent _ _) rs) (rest emptyRow is-empty-row used rs))
+    (both (each row_tidy empty_row zero_tidy (λ r. absent _ _) rs) (rest empty_row is_empty_row used rs))
 
-entries-tidy : (used : ℕ) (es : List Entry) → Dec (EntriesTidy used es)
-entries-tidy used es = iff (λ t. record { rest = t }) (λ t. t.rest) (rest emptyEntry is-empty-entry used es)
+entries_tidy : (used : ℕ) (es : List Entry) → Dec (EntriesTidy used es)
+entries_tidy used es = iff (λ t. record { rest = t }) (λ t. t.rest) (rest empty_entry is_empty_entry used es)
 
-lists-tidy : (n : ℕ) (es : List Entry) (rs : List Row) → Dec (ListsTidy n es rs)
-lists-tidy n es rs =
+lists_tidy : (n : ℕ) (es : List Entry) (rs : List Row) → Dec (ListsTidy n es rs)
+lists_tidy n es rs =
     iff (λ t. record { each = t.0; entries = t.1; rows = t.2 }) (λ t. (t.each, t.entries, t.rows))
-    (three (each entryTidy emptyEntry (zero-tidy, record { are = λ e. (refl, (refl, (refl, (refl, tt)))) }, zero-tidy) (λ e. search decisions) es) (both (entries-tidy _ _) (rows-tidy _ _)))
+    (three (each entry_tidy empty_entry (zero_tidy, record { are = λ e. (refl, (refl, (refl, (refl, tt)))) }, zero_tidy) (λ e. search decisions) es) (both (entries_tidy _ _) (rows_tidy _ _)))
 
-message-tidy : (m : Message) (es : List Entry) (rs : List Row) → Dec (messageTidy m es rs)
-unfolding messageTidy
-message-tidy (kind.ActionRequest m) es rs = search (decisions, rows-tidy, entries-tidy)
-message-tidy (kind.ActionResponse m) es rs = search (decisions, rows-tidy, entries-tidy)
-message-tidy (kind.EventRequest m) es rs = search (decisions, rows-tidy, entries-tidy)
-message-tidy (kind.EventResponse m) es rs = search (decisions, rows-tidy, entries-tidy)
-message-tidy (kind.SetRequest m) es rs = search (decisions, rows-tidy, entries-tidy)
-message-tidy (kind.SetResponse m) es rs = search (decisions, rows-tidy, entries-tidy)
-message-tidy (kind.GetRequest m) es rs = search (decisions, rows-tidy, entries-tidy)
-message-tidy (kind.GetResponse m) es rs = search (decisions, rows-tidy, entries-tidy)
-message-tidy (kind.Bst m) es rs = search (decisions, lists-tidy)
-message-tidy (kind.Vst m) es rs = search (decisions, lists-tidy)
+message_tidy_law : (m : Message) (es : List Entry) (rs : List Row) → Dec (message_tidy m es rs)
+unfolding message_tidy
+message_tidy_law (kind.ActionRequest m) es rs = search (decisions, rows_tidy, entries_tidy)
+message_tidy_law (kind.ActionResponse m) es rs = search (decisions, rows_tidy, entries_tidy)
+message_tidy_law (kind.EventRequest m) es rs = search (decisions, rows_tidy, entries_tidy)
+message_tidy_law (kind.EventResponse m) es rs = search (decisions, rows_tidy, entries_tidy)
+message_tidy_law (kind.SetRequest m) es rs = search (decisions, rows_tidy, entries_tidy)
+message_tidy_law (kind.SetResponse m) es rs = search (decisions, rows_tidy, entries_tidy)
+message_tidy_law (kind.GetRequest m) es rs = search (decisions, rows_tidy, entries_tidy)
+message_tidy_law (kind.GetResponse m) es rs = search (decisions, rows_tidy, entries_tidy)
+message_tidy_law (kind.Bst m) es rs = search (decisions, lists_tidy)
+message_tidy_law (kind.Vst m) es rs = search (decisions, lists_tidy)
 
 -- ---- cases
 
@@ -130,8 +130,8 @@ said : {T : Type 0} → Dec T → Bool
 said (yes t) = true
 said (no f) = false
 
-tidy-case : Case → Bool
-tidy-case c = said (message-tidy c.message c.entries c.rows)
+tidy_case : Case → Bool
+tidy_case c = said (message_tidy_law c.message c.entries c.rows)
 
 -- what was decided is so
 judged : (tidy : Bool) {T : Type 0} (t : Dec T) → said t ≡ tidy → pick tidy T (T → ⊥)
@@ -141,14 +141,14 @@ judged true (no f) e = absurd (false≢true e)
 judged false (yes t) e = absurd (false≢true (sym e))
 judged false (no f) e = f
 
-each-case : (cs : List Case) → map tidy-case cs ≡ map (λ (c : Case). c.tidy) cs → Each cs
-unfolding Each Judged tidy-case
-each-case [] e = tt
-each-case (c ∷ cs) e = (judged c.tidy (message-tidy c.message c.entries c.rows) (cc), each-case cs (cc))
+each_case : (cs : List Case) → map tidy_case cs ≡ map (λ (c : Case). c.tidy) cs → Each cs
+unfolding Each Judged tidy_case
+each_case [] e = tt
+each_case (c ∷ cs) e = (judged c.tidy (message_tidy_law c.message c.entries c.rows) (cc), each_case cs (cc))
 
-decided : map tidy-case cases ≡ map (λ (c : Case). c.tidy) cases
-unfolding iff both three four is_false is_zero all-zero absent each rest is-empty-row is-empty-entry rows-tidy entries-tidy lists-tidy message-tidy said tidy-case messageTidy rows_of entry_rows
+decided : map tidy_case cases ≡ map (λ (c : Case). c.tidy) cases
+unfolding iff both three four is_false is_zero all_zero_law absent each rest is_empty_row is_empty_entry rows_tidy entries_tidy lists_tidy message_tidy_law said tidy_case message_tidy rows_of entry_rows
 decided = refl
 
-pub tidy-cases-hold : TidyCasesHold
-tidy-cases-hold = each-case cases decided
+pub tidy_cases_hold : TidyCasesHold
+tidy_cases_hold = each_case cases decided

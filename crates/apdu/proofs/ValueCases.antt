@@ -4,12 +4,12 @@ use mathlib.Core.Path.{refl}
 use Rattle.refusals.specs.Check.{first_of}
 use Rattle.bits.specs.Bits.{digits, bits, number, octets}
 use Rattle.apdu_format.specs.Table.{layout_of}
-use Rattle.apdu_format.specs.Rules.{shape, checksOf, present, times, content, brings, announced}
-use Rattle.apdu_format.specs.Reading.{numbersOf, fields_of, value_at, through}
-use Rattle.apdu_format.specs.Writing.{fieldBits, fieldsFit, bits_of, areBits, fits, is_value, putValue, putFirst, put, puts, written, none, in_range, encode, size, encodedOctets}
-use Rattle.apdu.specs.Values.{idsAt, headValues, rowValues, rowsValues, entryValues, entry_rows, entriesValues, rows_of, requestValues, actionResponseValues, responseValues, setRequestValues, getRequestValues, getResponseValues, bstValues, vstValues, values_of}
-use Rattle.apdu.specs.ValueCases.{ValueCasesHold, places_of, pictureOf}
+use Rattle.apdu_format.specs.Rules.{shape, checks_of, present, times, content, brings, announced}
+use Rattle.apdu_format.specs.Reading.{numbers_of, fields_of, value_at, through}
+use Rattle.apdu_format.specs.Writing.{field_bits, fields_fit, bits_of, are_bits, fits, is_value, put_value, put_first, put, puts, written, none, in_range, encode, size, encoded_octets}
+use Rattle.apdu.specs.Values.{ids_at, head_values, row_values, rows_values, entry_values, entry_rows, entries_values, rows_of, request_values, action_response_values, response_values, set_request_values, get_request_values, get_response_values, bst_values, vst_values, values_of}
+use Rattle.apdu.specs.ValueCases.{ValueCasesHold, places_of, picture_of}
 
-pub value-cases-hold : ValueCasesHold
-unfolding first_of digits bits number octets layout_of shape checksOf present times content brings announced numbersOf fields_of value_at through fieldBits fieldsFit bits_of areBits fits is_value putValue putFirst put puts written none in_range encode size encodedOctets idsAt headValues rowValues rowsValues entryValues entry_rows entriesValues rows_of requestValues actionResponseValues responseValues setRequestValues getRequestValues getResponseValues bstValues vstValues values_of places_of pictureOf
-value-cases-hold = refl
+pub value_cases_hold : ValueCasesHold
+unfolding first_of digits bits number octets layout_of shape checks_of present times content brings announced numbers_of fields_of value_at through field_bits fields_fit bits_of are_bits fits is_value put_value put_first put puts written none in_range encode size encoded_octets ids_at head_values row_values rows_values entry_values entry_rows entries_values rows_of request_values action_response_values response_values set_request_values get_request_values get_response_values bst_values vst_values values_of places_of picture_of
+value_cases_hold = refl

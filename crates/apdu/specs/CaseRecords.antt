@@ -78,14 +78,14 @@ request mode credentials parameter iid =
       iid = iid.number;
     }
 
-abbrev pub actionRequest : Bool → OptionalPart → OptionalContainer → OptionalField → Message
-actionRequest mode credentials parameter iid = kind.ActionRequest (request mode credentials parameter iid)
+abbrev pub action_request : Bool → OptionalPart → OptionalContainer → OptionalField → Message
+action_request mode credentials parameter iid = kind.ActionRequest (request mode credentials parameter iid)
 
-abbrev pub eventRequest : Bool → OptionalPart → OptionalContainer → OptionalField → Message
-eventRequest mode credentials parameter iid = kind.EventRequest (request mode credentials parameter iid)
+abbrev pub event_request : Bool → OptionalPart → OptionalContainer → OptionalField → Message
+event_request mode credentials parameter iid = kind.EventRequest (request mode credentials parameter iid)
 
-abbrev pub actionResponse : (fill : ℕ) (iid : OptionalField) (parameter : OptionalContainer) (ret : OptionalField) → Message
-actionResponse fill iid parameter ret =
+abbrev pub action_response : (fill : ℕ) (iid : OptionalField) (parameter : OptionalContainer) (ret : OptionalField) → Message
+action_response fill iid parameter ret =
     kind.ActionResponse (record {
       fill = fill;
       eid = 5;
@@ -104,15 +104,15 @@ abbrev pub response : (fill : ℕ) (iid ret : OptionalField) → Response
 response fill iid ret =
     record { fill = fill; eid = 5; has_iid = iid.present; iid = iid.number; has_ret = ret.present; ret = ret.number }
 
-abbrev pub eventResponse : ℕ → OptionalField → OptionalField → Message
-eventResponse fill iid ret = kind.EventResponse (response fill iid ret)
+abbrev pub event_response : ℕ → OptionalField → OptionalField → Message
+event_response fill iid ret = kind.EventResponse (response fill iid ret)
 
-abbrev pub setResponse : ℕ → OptionalField → OptionalField → Message
-setResponse fill iid ret = kind.SetResponse (response fill iid ret)
+abbrev pub set_response : ℕ → OptionalField → OptionalField → Message
+set_response fill iid ret = kind.SetResponse (response fill iid ret)
 
 -- its attribute list is always there
-abbrev pub setRequest : (fill : ℕ) (mode : Bool) (credentials : OptionalPart) (count rows : ℕ) (iid : OptionalField) → Message
-setRequest fill mode credentials count rows iid =
+abbrev pub set_request : (fill : ℕ) (mode : Bool) (credentials : OptionalPart) (count rows : ℕ) (iid : OptionalField) → Message
+set_request fill mode credentials count rows iid =
     kind.SetRequest (record {
       fill = fill;
       mode = mode;
@@ -126,8 +126,8 @@ setRequest fill mode credentials count rows iid =
       iid = iid.number;
     })
 
-abbrev pub getRequest : (fill : ℕ) (credentials : OptionalPart) (iid : OptionalField) (ids : OptionalPart) → Message
-getRequest fill credentials iid ids =
+abbrev pub get_request : (fill : ℕ) (credentials : OptionalPart) (iid : OptionalField) (ids : OptionalPart) → Message
+get_request fill credentials iid ids =
     kind.GetRequest (record {
       fill = fill;
       eid = 5;
@@ -141,8 +141,8 @@ getRequest fill credentials iid ids =
       count = ids.count;
     })
 
-abbrev pub getResponse : (fill : ℕ) (iid : OptionalField) (list : OptionalList) (ret : OptionalField) → Message
-getResponse fill iid list ret =
+abbrev pub get_response : (fill : ℕ) (iid : OptionalField) (list : OptionalList) (ret : OptionalField) → Message
+get_response fill iid list ret =
     kind.GetResponse (record {
       fill = fill;
       eid = 5;

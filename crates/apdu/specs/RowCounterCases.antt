@@ -4,7 +4,7 @@
 use Rattle.std.specs.Prelude.{ℕ, ◌≡◌, List, [], ◌∷◌, map}
 use Rattle.apdu_format.specs.Component.{Component, integer, container}
 use Rattle.apdu.specs.declared.due.Due.{Due}
-use Rattle.apdu.specs.RowCounters.{levelOf, afterRow, total, dueList}
+use Rattle.apdu.specs.RowCounters.{level_of, after_row, total, due_list}
 
 abbrev pub due : (d1 d2 d3 d4 d5 : ℕ) → Due
 due d1 d2 d3 d4 d5 = record { d1 = d1; d2 = d2; d3 = d3; d4 = d4; d5 = d5 }
@@ -20,7 +20,7 @@ pub record Case : Type 0 where
   pub gives : Counts
 
 abbrev pub counted : Due → Counts
-counted o = record { level = levelOf o; after = afterRow o 3; total = total o; components = dueList o }
+counted o = record { level = level_of o; after = after_row o 3; total = total o; components = due_list o }
 
 abbrev pub gives : Due → ℕ → Due → ℕ → List Component → Case
 gives o level after total components = record { due = o; gives = record { level = level; after = after; total = total; components = components } }

@@ -11,12 +11,12 @@ abbrev pub row : ℕ → List Component
 row d = integer ∷ container d ∷ []
 
 -- the depth of the next row's container: that of the innermost list with rows to come
-unfoldable pub levelOf : Due → ℕ
-levelOf o = pick (eqb o.d5 0) (pick (eqb o.d4 0) (pick (eqb o.d3 0) (pick (eqb o.d2 0) 1 2) 3) 4) 5
+unfoldable pub level_of : Due → ℕ
+level_of o = pick (eqb o.d5 0) (pick (eqb o.d4 0) (pick (eqb o.d3 0) (pick (eqb o.d2 0) 1 2) 3) 4) 5
 
 -- one row less to come in the innermost list, and n in the list that this row opens
-unfoldable pub afterRow : Due → ℕ → Due
-afterRow o n =
+unfoldable pub after_row : Due → ℕ → Due
+after_row o n =
     pick (eqb o.d5 0)
     (pick (eqb o.d4 0)
     (pick (eqb o.d3 0)
@@ -31,5 +31,5 @@ abbrev pub total : Due → ℕ
 total o = o.d1 + o.d2 + o.d3 + o.d4 + o.d5
 
 -- the components of all rows still to come, the innermost list first
-unfoldable pub dueList : Due → List Component
-dueList o = times o.d5 (row 5) ++ (times o.d4 (row 4) ++ (times o.d3 (row 3) ++ (times o.d2 (row 2) ++ times o.d1 (row 1))))
+unfoldable pub due_list : Due → List Component
+due_list o = times o.d5 (row 5) ++ (times o.d4 (row 4) ++ (times o.d3 (row 3) ++ (times o.d2 (row 2) ++ times o.d1 (row 1))))

@@ -4,9 +4,9 @@
 -- Assumes nothing.
 use Rattle.std.specs.Prelude.{ℕ, zero, suc, ◌+◌, List, [], ◌∷◌, Bool, true, false, ◌&&◌, length, take, drop, eqb, leb}
 use Rattle.refusals.specs.Check.{pick}
-use Rattle.bits.specs.Strings.{isInside}
-use Rattle.apdu_format.specs.Limits.{mostRows}
-use Rattle.apdu_format.specs.Component.{octetString, attributeIdList, attributeList}
+use Rattle.bits.specs.Strings.{is_inside}
+use Rattle.apdu_format.specs.Limits.{most_rows}
+use Rattle.apdu_format.specs.Component.{octet_string, attribute_id_list, attribute_list}
 use Rattle.apdu_format.specs.Writing.{in_range}
 use Rattle.apdu.specs.declared.lists.Row.{Row}
 use Rattle.apdu.specs.declared.lists.Entry.{Entry}
@@ -22,16 +22,16 @@ use Rattle.apdu.specs.declared.records.Message.TheVariants as kind
 use Rattle.apdu.specs.Values.{entry_rows, rows_of, values_of}
 
 -- whether the lent octets, so many of them, hold the string or the ids of a container
-unfoldable pub partFits : (octets kind n start : ℕ) → Bool
-partFits octets kind n start = pick (eqb kind octetString) (isInside octets start n) (pick (eqb kind attributeIdList) (isInside octets start n) true)
+unfoldable pub part_fits : (octets kind n start : ℕ) → Bool
+part_fits octets kind n start = pick (eqb kind octet_string) (is_inside octets start n) (pick (eqb kind attribute_id_list) (is_inside octets start n) true)
 
 -- the rows that a container announces
 abbrev pub nested : ℕ → ℕ → ℕ
-nested kind n = pick (eqb kind attributeList) n 0
+nested kind n = pick (eqb kind attribute_list) n 0
 
-unfoldable pub partsFit : ℕ → List Row → Bool
-partsFit octets [] = true
-partsFit octets (r ∷ rs) = partFits octets r.kind r.n r.start && partsFit octets rs
+unfoldable pub parts_fit : ℕ → List Row → Bool
+parts_fit octets [] = true
+parts_fit octets (r ∷ rs) = part_fits octets r.kind r.n r.start && parts_fit octets rs
 
 -- these are the n rows of a list, each followed by the rows of its own list
 unfoldable pub closes : ℕ → List Row → Bool
@@ -40,88 +40,88 @@ closes zero (r ∷ rs) = false
 closes (suc n) [] = false
 closes (suc n) (r ∷ rs) = closes (nested r.kind r.n + n) rs
 
-unfoldable pub rowsSound : ℕ → ℕ → List Row → Bool
-rowsSound octets n rs = partsFit octets rs && closes n rs
+unfoldable pub rows_sound : ℕ → ℕ → List Row → Bool
+rows_sound octets n rs = parts_fit octets rs && closes n rs
 
-unfoldable pub containerSound : ℕ → ℕ → ℕ → ℕ → List Row → Bool
-containerSound octets kind n start rs = partFits octets kind n start && rowsSound octets (nested kind n) rs
+unfoldable pub container_sound : ℕ → ℕ → ℕ → ℕ → List Row → Bool
+container_sound octets kind n start rs = part_fits octets kind n start && rows_sound octets (nested kind n) rs
 
-abbrev pub soundIf : Bool → Bool → Bool
-soundIf p b = pick p b true
+abbrev pub sound_if : Bool → Bool → Bool
+sound_if p b = pick p b true
 
-unfoldable pub entrySound : ℕ → Entry → List Row → Bool
-entrySound octets e rs = soundIf e.has_parameter (containerSound octets e.kind e.n e.start rs)
+unfoldable pub entry_sound : ℕ → Entry → List Row → Bool
+entry_sound octets e rs = sound_if e.has_parameter (container_sound octets e.kind e.n e.start rs)
 
-unfoldable pub entriesSound : ℕ → List Entry → List Row → Bool
-entriesSound octets [] rs = true
-entriesSound octets (e ∷ es) rs = entrySound octets e (take (entry_rows e) rs) && entriesSound octets es (drop (entry_rows e) rs)
+unfoldable pub entries_sound : ℕ → List Entry → List Row → Bool
+entries_sound octets [] rs = true
+entries_sound octets (e ∷ es) rs = entry_sound octets e (take (entry_rows e) rs) && entries_sound octets es (drop (entry_rows e) rs)
 
 -- ---- messages
 
-unfoldable pub requestSound : ℕ → Request → List Row → Bool
-requestSound octets m rs =
-    soundIf m.has_credentials (isInside octets m.credentials m.credentials_length)
-    && soundIf m.has_parameter (containerSound octets m.kind m.n m.start (take m.rows rs))
+unfoldable pub request_sound : ℕ → Request → List Row → Bool
+request_sound octets m rs =
+    sound_if m.has_credentials (is_inside octets m.credentials m.credentials_length)
+    && sound_if m.has_parameter (container_sound octets m.kind m.n m.start (take m.rows rs))
 
-unfoldable pub actionResponseSound : ℕ → ActionResponse → List Row → Bool
-actionResponseSound octets m rs = soundIf m.has_parameter (containerSound octets m.kind m.n m.start (take m.rows rs))
+unfoldable pub action_response_sound : ℕ → ActionResponse → List Row → Bool
+action_response_sound octets m rs = sound_if m.has_parameter (container_sound octets m.kind m.n m.start (take m.rows rs))
 
-unfoldable pub setRequestSound : ℕ → SetRequest → List Row → Bool
-setRequestSound octets m rs =
-    soundIf m.has_credentials (isInside octets m.credentials m.credentials_length) && rowsSound octets m.count (take m.rows rs)
+unfoldable pub set_request_sound : ℕ → SetRequest → List Row → Bool
+set_request_sound octets m rs =
+    sound_if m.has_credentials (is_inside octets m.credentials m.credentials_length) && rows_sound octets m.count (take m.rows rs)
 
-unfoldable pub getRequestSound : ℕ → GetRequest → Bool
-getRequestSound octets m =
-    soundIf m.has_credentials (isInside octets m.credentials m.credentials_length) && soundIf m.has_ids (isInside octets m.ids m.count)
+unfoldable pub get_request_sound : ℕ → GetRequest → Bool
+get_request_sound octets m =
+    sound_if m.has_credentials (is_inside octets m.credentials m.credentials_length) && sound_if m.has_ids (is_inside octets m.ids m.count)
 
-unfoldable pub getResponseSound : ℕ → GetResponse → List Row → Bool
-getResponseSound octets m rs = soundIf m.has_attributes (rowsSound octets m.count (take m.rows rs))
+unfoldable pub get_response_sound : ℕ → GetResponse → List Row → Bool
+get_response_sound octets m rs = sound_if m.has_attributes (rows_sound octets m.count (take m.rows rs))
 
-unfoldable pub bstSound : ℕ → Bst → List Entry → List Row → Bool
-bstSound octets m es rs =
+unfoldable pub bst_sound : ℕ → Bst → List Entry → List Row → Bool
+bst_sound octets m es rs =
     let first = take m.mandatory es in
-    entriesSound octets first (take (rows_of first) rs)
-    && (soundIf m.has_others (entriesSound octets (take m.others (drop m.mandatory es)) (drop (rows_of first) rs))
-    && isInside octets m.profiles m.profile_count)
+    entries_sound octets first (take (rows_of first) rs)
+    && (sound_if m.has_others (entries_sound octets (take m.others (drop m.mandatory es)) (drop (rows_of first) rs))
+    && is_inside octets m.profiles m.profile_count)
 
-unfoldable pub vstSound : ℕ → Vst → List Entry → List Row → Bool
-vstSound octets m es rs = entriesSound octets (take m.applications es) rs
+unfoldable pub vst_sound : ℕ → Vst → List Entry → List Row → Bool
+vst_sound octets m es rs = entries_sound octets (take m.applications es) rs
 
 unfoldable pub sound : ℕ → Message → List Entry → List Row → Bool
-sound octets (kind.ActionRequest m) es rs = requestSound octets m rs
-sound octets (kind.ActionResponse m) es rs = actionResponseSound octets m rs
-sound octets (kind.EventRequest m) es rs = requestSound octets m rs
+sound octets (kind.ActionRequest m) es rs = request_sound octets m rs
+sound octets (kind.ActionResponse m) es rs = action_response_sound octets m rs
+sound octets (kind.EventRequest m) es rs = request_sound octets m rs
 sound octets (kind.EventResponse m) es rs = true
-sound octets (kind.SetRequest m) es rs = setRequestSound octets m rs
+sound octets (kind.SetRequest m) es rs = set_request_sound octets m rs
 sound octets (kind.SetResponse m) es rs = true
-sound octets (kind.GetRequest m) es rs = getRequestSound octets m
-sound octets (kind.GetResponse m) es rs = getResponseSound octets m rs
-sound octets (kind.Bst m) es rs = bstSound octets m es rs
-sound octets (kind.Vst m) es rs = vstSound octets m es rs
+sound octets (kind.GetRequest m) es rs = get_request_sound octets m
+sound octets (kind.GetResponse m) es rs = get_response_sound octets m rs
+sound octets (kind.Bst m) es rs = bst_sound octets m es rs
+sound octets (kind.Vst m) es rs = vst_sound octets m es rs
 
 -- ---- the limit of rows
 
 -- so many, if they are there
-abbrev pub countIf : Bool → ℕ → ℕ
-countIf p n = pick p n 0
+abbrev pub count_if : Bool → ℕ → ℕ
+count_if p n = pick p n 0
 
 -- the rows of what is present, summed over the entries
-unfoldable pub rowsPresent : Message → List Entry → ℕ
-rowsPresent (kind.ActionRequest m) es = countIf m.has_parameter m.rows
-rowsPresent (kind.ActionResponse m) es = countIf m.has_parameter m.rows
-rowsPresent (kind.EventRequest m) es = countIf m.has_parameter m.rows
-rowsPresent (kind.EventResponse m) es = 0
-rowsPresent (kind.SetRequest m) es = m.rows
-rowsPresent (kind.SetResponse m) es = 0
-rowsPresent (kind.GetRequest m) es = 0
-rowsPresent (kind.GetResponse m) es = countIf m.has_attributes m.rows
-rowsPresent (kind.Bst m) es =
-    rows_of (take m.mandatory es) + countIf m.has_others (rows_of (take m.others (drop m.mandatory es)))
-rowsPresent (kind.Vst m) es = rows_of (take m.applications es)
+unfoldable pub rows_present : Message → List Entry → ℕ
+rows_present (kind.ActionRequest m) es = count_if m.has_parameter m.rows
+rows_present (kind.ActionResponse m) es = count_if m.has_parameter m.rows
+rows_present (kind.EventRequest m) es = count_if m.has_parameter m.rows
+rows_present (kind.EventResponse m) es = 0
+rows_present (kind.SetRequest m) es = m.rows
+rows_present (kind.SetResponse m) es = 0
+rows_present (kind.GetRequest m) es = 0
+rows_present (kind.GetResponse m) es = count_if m.has_attributes m.rows
+rows_present (kind.Bst m) es =
+    rows_of (take m.mandatory es) + count_if m.has_others (rows_of (take m.others (drop m.mandatory es)))
+rows_present (kind.Vst m) es = rows_of (take m.applications es)
 
-unfoldable pub rowsFit : Message → List Entry → Bool
-rowsFit m es = leb (rowsPresent m es) mostRows
+unfoldable pub rows_fit : Message → List Entry → Bool
+rows_fit m es = leb (rows_present m es) most_rows
 
 -- a record that does not break the condition of 23: every value of what is present is in range, every part and list is sound, and the rows keep the limit
-unfoldable pub wellFormed : List ℕ → Message → List Entry → List Row → Bool
-wellFormed s m es rs = in_range (values_of s m es rs) && (sound (length s) m es rs && rowsFit m es)
+unfoldable pub well_formed : List ℕ → Message → List Entry → List Row → Bool
+well_formed s m es rs = in_range (values_of s m es rs) && (sound (length s) m es rs && rows_fit m es)

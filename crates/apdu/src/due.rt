@@ -1,14 +1,14 @@
 // The attribute rows that are still to come, list in list: what reading and writing both count.
 ghost use Rattle.std.specs.Prelude.{◌≡◌, ◌-◌, ◌≤◌};
-ghost use Rattle.apdu_format.specs.Rules.{knownKind};
+ghost use Rattle.apdu_format.specs.Rules.{known_kind};
 ghost use Rattle.apdu.specs.Sound.{nested};
-ghost use Rattle.apdu.specs.RowCounters.{levelOf, afterRow};
+ghost use Rattle.apdu.specs.RowCounters.{level_of, after_row};
 
 use crate::limits::{ATTRIBUTE_ID_LIST, ATTRIBUTE_LIST, DSRC_EID, OCTET_STRING};
 
 // Whether a container kind is read and written here.
 pub fn known(kind: u64) -> bool
-    ensures { result ≡ knownKind kind }
+    ensures { result ≡ known_kind kind }
 {
     (kind == OCTET_STRING)
         | (kind == DSRC_EID)
@@ -35,7 +35,7 @@ pub struct Due {
 
 // The depth of the next row's container: that of the innermost list with rows to come.
 pub fn level(o: Due) -> usize
-    ensures { (result ≡ levelOf o) × (result ≤ 5) }
+    ensures { (result ≡ level_of o) × (result ≤ 5) }
 {
     if o.d5 != 0 {
         return 5;
@@ -60,7 +60,7 @@ fn less(n: u64) -> u64
 
 // What is due after one row, whose container announces n rows.
 pub fn after_row(o: Due, n: u64) -> Due
-    ensures { result ≡ afterRow o n }
+    ensures { result ≡ after_row o n }
 {
     if o.d5 != 0 {
         return Due {

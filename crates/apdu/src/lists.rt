@@ -2,7 +2,7 @@
 // without gaps, so that an array of them is cleared and copied as one block. A start is a bit place in the lent octets.
 ghost use Rattle.std.specs.Prelude.{◌≡◌, replicate, ◌-◌, ◌<◌, ◌≤◌};
 ghost use Rattle.apdu.specs.Tables.{lesser};
-ghost use Rattle.apdu.specs.Values.{emptyRow, emptyEntry, entry_rows};
+ghost use Rattle.apdu.specs.Values.{empty_row, empty_entry, entry_rows};
 
 // An attribute and its container: n is a string's length, an EID, or a count; a list of n rows is followed by its rows.
 #[derive(Drop)]
@@ -56,7 +56,7 @@ pub struct Lists {
 
 // Rows of which none is used.
 pub fn no_rows() -> [Row; 32]
-    ensures { result ≡ replicate 32 emptyRow }
+    ensures { result ≡ replicate 32 empty_row }
 {
     [Row {
         id: 0,
@@ -68,7 +68,7 @@ pub fn no_rows() -> [Row; 32]
 
 // Entries of which none is used.
 pub fn no_entries() -> [Entry; 32]
-    ensures { result ≡ replicate 32 emptyEntry }
+    ensures { result ≡ replicate 32 empty_entry }
 {
     [Entry {
         has_eid: false,

@@ -4,7 +4,7 @@
 use Rattle.std.specs.Prelude.{ℕ, zero, suc, ◌*◌, ◌/◌, ◌%◌, ◌≡◌, List, [], ◌∷◌, ◌++◌, map, length}
 use Rattle.bits.specs.Bits.{bits}
 use Rattle.apdu_format.specs.Component.{choice}
-use Rattle.apdu_format.specs.Reading.{Value, fields, string, State, Outcome, refused, message, readMessage, runs, start}
+use Rattle.apdu_format.specs.Reading.{Value, fields, string, State, Outcome, refused, message, read_message, runs, start}
 
 -- so many octets as the papers print them: picture 3 0x20_00_00 is 20 00 00
 unfoldable pub picture : ℕ → ℕ → List ℕ
@@ -27,16 +27,16 @@ abbrev pub number : ℕ → List Value
 number n = fields (0 ∷ n ∷ []) ∷ []
 
 -- a number of two or four octets
-abbrev pub wholeNumber : ℕ → List Value
-wholeNumber n = fields (n ∷ []) ∷ []
+abbrev pub whole_number : ℕ → List Value
+whole_number n = fields (n ∷ []) ∷ []
 
 -- an octet string whose octets start at octet k of the message
-abbrev pub octetString : ℕ → List ℕ → List Value
-octetString k s = fields (0 ∷ []) ∷ fields (length s ∷ []) ∷ string (8 * k) (bits s) ∷ []
+abbrev pub octet_string : ℕ → List ℕ → List Value
+octet_string k s = fields (0 ∷ []) ∷ fields (length s ∷ []) ∷ string (8 * k) (bits s) ∷ []
 
 -- a count of ids or profiles, which start at octet k of the message
-abbrev pub idsFrom : ℕ → ℕ → List Value
-idsFrom k n = fields (0 ∷ n ∷ []) ∷ string (8 * k) [] ∷ []
+abbrev pub ids_from : ℕ → ℕ → List Value
+ids_from k n = fields (0 ∷ n ∷ []) ∷ string (8 * k) [] ∷ []
 
 -- an application entry's first octet: whether an eid follows, whether a parameter, and the AID
 abbrev pub application : ℕ → ℕ → ℕ → List Value
@@ -58,7 +58,7 @@ pub data Result : Type 0 where
   state : State → Result
 
 unfoldable pub result : Given → Result
-result (reading s) = outcome (readMessage s)
+result (reading s) = outcome (read_message s)
 result (components s) = state (runs (bits s) (choice ∷ []) start)
 
 pub record Case : Type 0 where

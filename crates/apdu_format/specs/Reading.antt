@@ -4,9 +4,9 @@
 use Rattle.std.specs.Prelude.{ℕ, zero, suc, ◌+◌, ◌-◌, ◌*◌, ◌/◌, List, [], ◌∷◌, ◌++◌, length, take, drop, ltb, eqb}
 use Rattle.refusals.specs.Check.{pick, check, first_of}
 use Rattle.bits.specs.Bits.{bits, number}
-use Rattle.apdu_format.specs.Limits.{longestMessage, mostRows}
+use Rattle.apdu_format.specs.Limits.{longest_message, most_rows}
 use Rattle.apdu_format.specs.Component.{Component, choice}
-use Rattle.apdu_format.specs.Rules.{Shape, widths, raw, shape, begins, checksOf, brings, announced}
+use Rattle.apdu_format.specs.Rules.{Shape, widths, raw, shape, begins, checks_of, brings, announced}
 
 -- ---- one component
 
@@ -15,9 +15,9 @@ pub data Value : Type 0 where
   fields : List ℕ → Value
   string : ℕ → List ℕ → Value
 
-unfoldable pub numbersOf : Value → List ℕ
-numbersOf (fields fs) = fs
-numbersOf (string at l) = []
+unfoldable pub numbers_of : Value → List ℕ
+numbers_of (fields fs) = fs
+numbers_of (string at l) = []
 
 unfoldable pub sum : List ℕ → ℕ
 sum [] = 0
@@ -48,28 +48,28 @@ pub record State : Type 0 where
   pub log : List Value  -- what was read
 
 -- the octet in which a bit place lies
-unfoldable pub octetOf : ℕ → ℕ
-octetOf at = at / 8
+unfoldable pub octet_of : ℕ → ℕ
+octet_of at = at / 8
 
 -- where the component begins of which i is a piece
 unfoldable pub beginning : Component → State → ℕ
 beginning i d = pick (begins i) d.at d.begun
 
 -- the first fault of a component with this value in the message's bits b, or 0
-unfoldable pub faultOf : List ℕ → Component → State → Value → ℕ
-faultOf b i d v = first_of (check 13 (ltb (length b) (d.at + need (shape i))) ∷ checksOf i d.room (numbersOf v))
+unfoldable pub fault_of : List ℕ → Component → State → Value → ℕ
+fault_of b i d v = first_of (check 13 (ltb (length b) (d.at + need (shape i))) ∷ checks_of i d.room (numbers_of v))
 
 -- for 13 the input's length, else the octet in which the component begins
 unfoldable pub position_of : List ℕ → ℕ → ℕ → ℕ
-position_of b k begun = pick (eqb k 13) (octetOf (length b)) (octetOf begun)
+position_of b k begun = pick (eqb k 13) (octet_of (length b)) (octet_of begun)
 
 -- a state, and what the component read brings with it
 pub record Step : Type 0 where
   pub state : State
   pub more : List Component
 
-abbrev pub refusedAt : State → ℕ → ℕ → Step
-refusedAt d k p = record { state = record { at = d.at; begun = d.begun; room = d.room; fault = k; position = p; log = [] }; more = [] }
+abbrev pub refused_at : State → ℕ → ℕ → Step
+refused_at d k p = record { state = record { at = d.at; begun = d.begun; room = d.room; fault = k; position = p; log = [] }; more = [] }
 
 abbrev pub passed : State → Component → Value → Step
 passed d i v =
@@ -78,16 +78,16 @@ passed d i v =
           record {
             at = d.at + need (shape i);
             begun = beginning i d;
-            room = d.room - announced i (numbersOf v);
+            room = d.room - announced i (numbers_of v);
             fault = 0;
             position = 0;
             log = d.log ++ (v ∷ []);
           };
-      more = brings i (numbersOf v);
+      more = brings i (numbers_of v);
     }
 
 unfoldable pub judged : List ℕ → Component → State → Value → Step
-judged b i d v = pick (eqb (faultOf b i d v) 0) (passed d i v) (refusedAt d (faultOf b i d v) (position_of b (faultOf b i d v) (beginning i d)))
+judged b i d v = pick (eqb (fault_of b i d v) 0) (passed d i v) (refused_at d (fault_of b i d v) (position_of b (fault_of b i d v) (beginning i d)))
 
 -- nothing is read behind a fault
 unfoldable pub step : List ℕ → Component → State → Step
@@ -114,7 +114,7 @@ unfoldable pub runs : List ℕ → List Component → State → State
 runs b is d = run b levels is d
 
 abbrev pub start : State
-start = record { at = 0; begun = 0; room = mostRows; fault = 0; position = 0; log = [] }
+start = record { at = 0; begun = 0; room = most_rows; fault = 0; position = 0; log = [] }
 
 pub data Outcome : Type 0 where
   refused : ℕ → ℕ → Outcome  -- number and position
@@ -124,14 +124,14 @@ unfoldable pub outcome : State → Outcome
 outcome d = pick (eqb d.fault 0) (message d.log d.at) (refused d.fault d.position)
 
 -- the message at the front of s
-unfoldable pub readFront : List ℕ → Outcome
-readFront s = outcome (runs (bits s) (choice ∷ []) start)
+unfoldable pub read_front : List ℕ → Outcome
+read_front s = outcome (runs (bits s) (choice ∷ []) start)
 
 -- 14, if octets are left behind it
 unfoldable pub alone : List ℕ → Outcome → Outcome
 alone s (refused k p) = refused k p
-alone s (message vs end) = pick (ltb end (8 * length s)) (refused 14 (octetOf end)) (message vs end)
+alone s (message vs end) = pick (ltb end (8 * length s)) (refused 14 (octet_of end)) (message vs end)
 
 -- the message that s is
-unfoldable pub readMessage : List ℕ → Outcome
-readMessage s = pick (ltb longestMessage (length s)) (refused 21 longestMessage) (alone s (readFront s))
+unfoldable pub read_message : List ℕ → Outcome
+read_message s = pick (ltb longest_message (length s)) (refused 21 longest_message) (alone s (read_front s))

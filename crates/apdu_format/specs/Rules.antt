@@ -3,8 +3,8 @@
 -- Assumes nothing.
 use Rattle.std.specs.Prelude.{ℕ, zero, suc, ◌*◌, List, [], ◌∷◌, ◌++◌, Bool, true, false, ◌||◌, not, length, get_or, ltb, leb, eqb}
 use Rattle.refusals.specs.Check.{pick, Check, check}
-use Rattle.apdu_format.specs.Limits.{mostCounted, deepest}
-use Rattle.apdu_format.specs.Component.{Component, choice, lead, integer, fixed, stringForm, stringLength, stringOctets, idCount, listStart, rowCount, entryCount, entry, container, class, octetString, dsrcEid, attributeIdList, attributeList}
+use Rattle.apdu_format.specs.Limits.{most_counted, deepest}
+use Rattle.apdu_format.specs.Component.{Component, choice, lead, integer, fixed, string_form, string_length, string_octets, id_count, list_start, row_count, entry_count, entry, container, class, octet_string, dsrc_eid, attribute_id_list, attribute_list}
 use Rattle.apdu_format.specs.Table.{Part, always, given, table, layout_of}
 
 -- ---- fields
@@ -23,13 +23,13 @@ shape choice = widths (4 ∷ [])
 shape (lead k) = widths (layout_of k).after
 shape integer = extensible
 shape (fixed n) = widths (8 * n ∷ [])
-shape stringForm = widths (1 ∷ [])
-shape stringLength = widths (7 ∷ [])
-shape (stringOctets n) = raw n
-shape idCount = extensible
-shape listStart = raw 0
-shape (rowCount d) = extensible
-shape entryCount = extensible
+shape string_form = widths (1 ∷ [])
+shape string_length = widths (7 ∷ [])
+shape (string_octets n) = raw n
+shape id_count = extensible
+shape list_start = raw 0
+shape (row_count d) = extensible
+shape entry_count = extensible
 shape entry = widths (1 ∷ 1 ∷ 1 ∷ 5 ∷ [])
 shape (container d) = extensible
 shape class = widths (1 ∷ 15 ∷ [])
@@ -40,13 +40,13 @@ begins choice = true
 begins (lead k) = false
 begins integer = true
 begins (fixed n) = true
-begins stringForm = true
-begins stringLength = false
-begins (stringOctets n) = false
-begins idCount = true
-begins listStart = false
-begins (rowCount d) = true
-begins entryCount = true
+begins string_form = true
+begins string_length = false
+begins (string_octets n) = false
+begins id_count = true
+begins list_start = false
+begins (row_count d) = true
+begins entry_count = true
 begins entry = true
 begins (container d) = true
 begins class = true
@@ -60,25 +60,25 @@ is_set fs i = eqb (get_or fs i 0) 1
 abbrev pub after : List ℕ → ℕ
 after fs = get_or fs 1 0
 
-abbrev pub knownKind : ℕ → Bool
-knownKind k = eqb k octetString || eqb k dsrcEid || eqb k attributeIdList || eqb k attributeList
+abbrev pub known_kind : ℕ → Bool
+known_kind k = eqb k octet_string || eqb k dsrc_eid || eqb k attribute_id_list || eqb k attribute_list
 
 -- the checks of a component that has all its bits, in order
-unfoldable pub checksOf : Component → ℕ → List ℕ → List Check
-checksOf choice room fs = check 15 (leb (length table) (get_or fs 0 0)) ∷ []
-checksOf (lead k) room fs = []
-checksOf integer room fs = check 16 (is_set fs 0) ∷ []
-checksOf (fixed n) room fs = []
-checksOf stringForm room fs = check 16 (is_set fs 0) ∷ []
-checksOf stringLength room fs = []
-checksOf (stringOctets n) room fs = []
-checksOf idCount room fs = check 16 (is_set fs 0) ∷ check 18 (ltb mostCounted (after fs)) ∷ []
-checksOf listStart room fs = []
-checksOf (rowCount d) room fs = check 16 (is_set fs 0) ∷ check 18 (ltb mostCounted (after fs) || ltb room (after fs)) ∷ []
-checksOf entryCount room fs = check 16 (is_set fs 0) ∷ check 18 (ltb mostCounted (after fs)) ∷ []
-checksOf entry room fs = check 16 (is_set fs 2) ∷ []
-checksOf (container d) room fs = check 16 (is_set fs 0) ∷ check 19 (ltb deepest d) ∷ check 17 (not (knownKind (after fs))) ∷ []
-checksOf class room fs = []
+unfoldable pub checks_of : Component → ℕ → List ℕ → List Check
+checks_of choice room fs = check 15 (leb (length table) (get_or fs 0 0)) ∷ []
+checks_of (lead k) room fs = []
+checks_of integer room fs = check 16 (is_set fs 0) ∷ []
+checks_of (fixed n) room fs = []
+checks_of string_form room fs = check 16 (is_set fs 0) ∷ []
+checks_of string_length room fs = []
+checks_of (string_octets n) room fs = []
+checks_of id_count room fs = check 16 (is_set fs 0) ∷ check 18 (ltb most_counted (after fs)) ∷ []
+checks_of list_start room fs = []
+checks_of (row_count d) room fs = check 16 (is_set fs 0) ∷ check 18 (ltb most_counted (after fs) || ltb room (after fs)) ∷ []
+checks_of entry_count room fs = check 16 (is_set fs 0) ∷ check 18 (ltb most_counted (after fs)) ∷ []
+checks_of entry room fs = check 16 (is_set fs 2) ∷ []
+checks_of (container d) room fs = check 16 (is_set fs 0) ∷ check 19 (ltb deepest d) ∷ check 17 (not (known_kind (after fs))) ∷ []
+checks_of class room fs = []
 
 -- ---- what follows
 
@@ -98,8 +98,8 @@ times (suc n) is = is ++ times n is
 -- what a container of this kind at this depth holds
 unfoldable pub content : ℕ → ℕ → List Component
 content d k =
-    pick (eqb k octetString) (stringForm ∷ [])
-    (pick (eqb k dsrcEid) (integer ∷ []) (pick (eqb k attributeIdList) (idCount ∷ []) (when (eqb k attributeList) (rowCount (suc d) ∷ []))))
+    pick (eqb k octet_string) (string_form ∷ [])
+    (pick (eqb k dsrc_eid) (integer ∷ []) (pick (eqb k attribute_id_list) (id_count ∷ []) (when (eqb k attribute_list) (row_count (suc d) ∷ []))))
 
 -- what a component brings with it, next in the message
 unfoldable pub brings : Component → List ℕ → List Component
@@ -107,13 +107,13 @@ brings choice fs = lead (get_or fs 0 0) ∷ []
 brings (lead k) fs = present fs (layout_of k).body
 brings integer fs = []
 brings (fixed n) fs = []
-brings stringForm fs = stringLength ∷ []
-brings stringLength fs = stringOctets (get_or fs 0 0) ∷ []
-brings (stringOctets n) fs = []
-brings idCount fs = (listStart ∷ []) ++ times (after fs) (integer ∷ [])
-brings listStart fs = []
-brings (rowCount d) fs = times (after fs) (integer ∷ container d ∷ [])
-brings entryCount fs = times (after fs) (entry ∷ [])
+brings string_form fs = string_length ∷ []
+brings string_length fs = string_octets (get_or fs 0 0) ∷ []
+brings (string_octets n) fs = []
+brings id_count fs = (list_start ∷ []) ++ times (after fs) (integer ∷ [])
+brings list_start fs = []
+brings (row_count d) fs = times (after fs) (integer ∷ container d ∷ [])
+brings entry_count fs = times (after fs) (entry ∷ [])
 brings entry fs = when (is_set fs 0) (integer ∷ []) ++ when (is_set fs 1) (container 1 ∷ [])
 brings (container d) fs = content d (after fs)
 brings class fs = (fixed 2 ∷ []) ++ when (is_set fs 0) (fixed 2 ∷ [])
@@ -124,13 +124,13 @@ announced choice fs = 0
 announced (lead k) fs = 0
 announced integer fs = 0
 announced (fixed n) fs = 0
-announced stringForm fs = 0
-announced stringLength fs = 0
-announced (stringOctets n) fs = 0
-announced idCount fs = 0
-announced listStart fs = 0
-announced (rowCount d) fs = after fs
-announced entryCount fs = 0
+announced string_form fs = 0
+announced string_length fs = 0
+announced (string_octets n) fs = 0
+announced id_count fs = 0
+announced list_start fs = 0
+announced (row_count d) fs = after fs
+announced entry_count fs = 0
 announced entry fs = 0
 announced (container d) fs = 0
 announced class fs = 0

@@ -3,45 +3,45 @@
 use Rattle.std.specs.Prelude.{ℕ, zero, suc, ◌+◌, ◌-◌, ◌*◌, ◌/◌, ◌^◌, List, [], ◌∷◌, ◌++◌, Bool, true, false, ◌&&◌, not, length, ltb, eqb}
 use Rattle.refusals.specs.Check.{pick, check, first_of}
 use Rattle.bits.specs.Bits.{digits, octets}
-use Rattle.apdu_format.specs.Limits.{longestMessage, mostRows}
+use Rattle.apdu_format.specs.Limits.{longest_message, most_rows}
 use Rattle.apdu_format.specs.Component.{Component, choice}
-use Rattle.apdu_format.specs.Rules.{Shape, widths, raw, shape, checksOf, brings, announced}
-use Rattle.apdu_format.specs.Reading.{Value, fields, string, numbersOf, through, levels}
+use Rattle.apdu_format.specs.Rules.{Shape, widths, raw, shape, checks_of, brings, announced}
+use Rattle.apdu_format.specs.Reading.{Value, fields, string, numbers_of, through, levels}
 
 -- ---- one component
 
-unfoldable pub fieldBits : List ℕ → List ℕ → List ℕ
-fieldBits [] fs = []
-fieldBits (w ∷ ws) [] = []
-fieldBits (w ∷ ws) (f ∷ fs) = digits w f ++ fieldBits ws fs
+unfoldable pub field_bits : List ℕ → List ℕ → List ℕ
+field_bits [] fs = []
+field_bits (w ∷ ws) [] = []
+field_bits (w ∷ ws) (f ∷ fs) = digits w f ++ field_bits ws fs
 
 -- as many fields as widths, each in its range
-unfoldable pub fieldsFit : List ℕ → List ℕ → Bool
-fieldsFit [] [] = true
-fieldsFit [] (f ∷ fs) = false
-fieldsFit (w ∷ ws) [] = false
-fieldsFit (w ∷ ws) (f ∷ fs) = ltb f (2 ^ w) && fieldsFit ws fs
+unfoldable pub fields_fit : List ℕ → List ℕ → Bool
+fields_fit [] [] = true
+fields_fit [] (f ∷ fs) = false
+fields_fit (w ∷ ws) [] = false
+fields_fit (w ∷ ws) (f ∷ fs) = ltb f (2 ^ w) && fields_fit ws fs
 
 -- the bits of a value
 unfoldable pub bits_of : Shape → Value → List ℕ
-bits_of (widths ws) v = fieldBits ws (numbersOf v)
+bits_of (widths ws) v = field_bits ws (numbers_of v)
 bits_of (raw n) (fields fs) = []
 bits_of (raw n) (string at l) = l
 
-unfoldable pub areBits : List ℕ → Bool
-areBits [] = true
-areBits (x ∷ l) = ltb x 2 && areBits l
+unfoldable pub are_bits : List ℕ → Bool
+are_bits [] = true
+are_bits (x ∷ l) = ltb x 2 && are_bits l
 
 -- a value has this shape, and each field its range
 unfoldable pub fits : Shape → Value → Bool
-fits (widths ws) (fields fs) = fieldsFit ws fs
+fits (widths ws) (fields fs) = fields_fit ws fs
 fits (widths ws) (string at l) = false
 fits (raw n) (fields fs) = false
-fits (raw n) (string at l) = eqb (length l) (8 * n) && areBits l
+fits (raw n) (string at l) = eqb (length l) (8 * n) && are_bits l
 
 -- v is a value of i: its fields have their widths, and reading would not refuse it
 unfoldable pub is_value : Component → ℕ → Value → Bool
-is_value i room v = fits (shape i) v && eqb (first_of (checksOf i room (numbersOf v))) 0
+is_value i room v = fits (shape i) v && eqb (first_of (checks_of i room (numbers_of v))) 0
 
 -- ---- one step
 
@@ -58,21 +58,21 @@ pub record PenStep : Type 0 where
 abbrev pub broken : PenStep
 broken = record { pen = record { left = []; room = 0; ok = false; out = [] }; more = [] }
 
-unfoldable pub putValue : Component → Pen → Value → List Value → PenStep
-putValue i p v vs =
+unfoldable pub put_value : Component → Pen → Value → List Value → PenStep
+put_value i p v vs =
     pick (is_value i p.room v)
     (record {
-      pen = record { left = vs; room = p.room - announced i (numbersOf v); ok = true; out = p.out ++ bits_of (shape i) v };
-      more = brings i (numbersOf v);
+      pen = record { left = vs; room = p.room - announced i (numbers_of v); ok = true; out = p.out ++ bits_of (shape i) v };
+      more = brings i (numbers_of v);
     })
     broken
 
-unfoldable pub putFirst : Component → Pen → List Value → PenStep
-putFirst i p [] = broken
-putFirst i p (v ∷ vs) = putValue i p v vs
+unfoldable pub put_first : Component → Pen → List Value → PenStep
+put_first i p [] = broken
+put_first i p (v ∷ vs) = put_value i p v vs
 
 unfoldable pub put : Component → Pen → PenStep
-put i p = pick p.ok (putFirst i p p.left) broken
+put i p = pick p.ok (put_first i p p.left) broken
 
 -- ---- a message
 
@@ -81,7 +81,7 @@ puts zero is p = p
 puts (suc l) is p = through (λ i p. let t = put i p in puts l t.more t.pen) is p
 
 abbrev pub pen : List Value → Pen
-pen vs = record { left = vs; room = mostRows; ok = true; out = [] }
+pen vs = record { left = vs; room = most_rows; ok = true; out = [] }
 
 unfoldable pub written : List Value → Pen
 written vs = puts levels (choice ∷ []) (pen vs)
@@ -101,9 +101,9 @@ encode vs = (written vs).out
 unfoldable pub size : List Value → ℕ
 size vs = length (encode vs) / 8
 
-unfoldable pub encodedOctets : List Value → List ℕ
-encodedOctets vs = octets (size vs) (encode vs)
+unfoldable pub encoded_octets : List Value → List ℕ
+encoded_octets vs = octets (size vs) (encode vs)
 
 -- the refusal of writing to an output of n octets, or 0
-unfoldable pub writeRefusal : List Value → ℕ → ℕ
-writeRefusal vs n = first_of (check 23 (not (in_range vs)) ∷ check 21 (ltb longestMessage (size vs)) ∷ check 22 (ltb n (size vs)) ∷ [])
+unfoldable pub write_refusal : List Value → ℕ → ℕ
+write_refusal vs n = first_of (check 23 (not (in_range vs)) ∷ check 21 (ltb longest_message (size vs)) ∷ check 22 (ltb n (size vs)) ∷ [])

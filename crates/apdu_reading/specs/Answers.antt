@@ -7,12 +7,12 @@
 use Rattle.std.specs.Prelude.{ℕ, ◌*◌, ◌/◌, ◌≡◌, List, true, length, replicate, eqb, ltb}
 use Rattle.refusals.specs.Check.{pick}
 use Rattle.apdu_format.specs.Component.{choice}
-use Rattle.apdu_format.specs.Reading.{Outcome, refused, message, readMessage}
+use Rattle.apdu_format.specs.Reading.{Outcome, refused, message, read_message}
 use Rattle.apdu.specs.declared.lists.Lists.{Lists}
 use Rattle.apdu.specs.declared.records.Message.{Message}
-use Rattle.apdu.specs.Values.{values_of, emptyRow, emptyEntry}
-use Rattle.apdu.specs.Tidy.{messageTidy, EntriesTidy, RowsTidy}
-use Rattle.apdu.specs.Sound.{sound, rowsFit}
+use Rattle.apdu.specs.Values.{values_of, empty_row, empty_entry}
+use Rattle.apdu.specs.Tidy.{message_tidy, EntriesTidy, RowsTidy}
+use Rattle.apdu.specs.Sound.{sound, rows_fit}
 use Rattle.apdu_reading.specs.declared.cursor.Cursor.{Cursor}
 use Rattle.apdu_reading.specs.declared.front.Answer.{Answer}
 use Rattle.apdu_reading.specs.declared.front.Answer.TheVariants as answer
@@ -23,33 +23,33 @@ unfoldable pub told : List ℕ → Lists → ℕ → Answer → Outcome
 told s l end (answer.Message m) = message (values_of s m l.entries l.rows) end
 told s l end (answer.Refused k p) = refused k p
 
-unfoldable pub outcomeOf : List ℕ → Reading → Outcome
-outcomeOf s r = told s r.lists r.end r.answer
+unfoldable pub outcome_of : List ℕ → Reading → Outcome
+outcome_of s r = told s r.lists r.end r.answer
 
-unfoldable pub tidyBy : Lists → ℕ → Answer → Type 0
-tidyBy l end (answer.Message m) = messageTidy m l.entries l.rows
-tidyBy l end (answer.Refused k p) = (end ≡ 0) × EntriesTidy 0 l.entries × RowsTidy 0 l.rows
+unfoldable pub tidy_by : Lists → ℕ → Answer → Type 0
+tidy_by l end (answer.Message m) = message_tidy m l.entries l.rows
+tidy_by l end (answer.Refused k p) = (end ≡ 0) × EntriesTidy 0 l.entries × RowsTidy 0 l.rows
 
 pub record Tidy (r : Reading) : Type 0 where
-  pub is : tidyBy r.lists r.end r.answer
+  pub is : tidy_by r.lists r.end r.answer
 
-unfoldable pub soundBy : ℕ → Lists → Answer → Type 0
-soundBy octets l (answer.Message m) = sound octets m l.entries l.rows ≡ true
-soundBy octets l (answer.Refused k p) = Unit {0}
+unfoldable pub sound_by : ℕ → Lists → Answer → Type 0
+sound_by octets l (answer.Message m) = sound octets m l.entries l.rows ≡ true
+sound_by octets l (answer.Refused k p) = Unit {0}
 
 pub record SoundRecord (s : List ℕ) (r : Reading) : Type 0 where
-  pub is : soundBy (length s) r.lists r.answer
+  pub is : sound_by (length s) r.lists r.answer
 
-unfoldable pub fewBy : Lists → Answer → Type 0
-fewBy l (answer.Message m) = rowsFit m l.entries ≡ true
-fewBy l (answer.Refused k p) = Unit {0}
+unfoldable pub few_by : Lists → Answer → Type 0
+few_by l (answer.Message m) = rows_fit m l.entries ≡ true
+few_by l (answer.Refused k p) = Unit {0}
 
 pub record FewRows (r : Reading) : Type 0 where
-  pub is : fewBy r.lists r.answer
+  pub is : few_by r.lists r.answer
 
 -- r is what reading s answers
 pub record Reads (s : List ℕ) (r : Reading) : Type 0 where
-  pub outcome : outcomeOf s r ≡ readMessage s
+  pub outcome : outcome_of s r ≡ read_message s
   pub tidy : Tidy r
   pub sound : SoundRecord s r
   pub few : FewRows r
@@ -62,11 +62,11 @@ ReadOnce = (s : List ℕ) (r q : Reading) → Reads s r → Reads s q → r ≡ 
 
 -- ---- within the crate
 
-abbrev pub noLists : Lists
-noLists = record { entries = replicate 32 emptyEntry; rows = replicate 32 emptyRow }
+abbrev pub no_lists : Lists
+no_lists = record { entries = replicate 32 empty_entry; rows = replicate 32 empty_row }
 
 unfoldable pub refusal : ℕ → ℕ → Reading
-refusal k p = record { answer = answer.Refused k p; end = 0; lists = noLists }
+refusal k p = record { answer = answer.Refused k p; end = 0; lists = no_lists }
 
 -- the cursor at the front of a message
 abbrev pub first : Cursor
@@ -78,8 +78,8 @@ pub record Chosen (s : List ℕ) (c : Cursor) : Type 0 where
   pub clean : c.fault ≡ 0
 
 -- the cursor behind a message, or 14 where octets are left
-unfoldable pub endedBy : List ℕ → Cursor → Cursor
-endedBy s c = pick (eqb c.fault 0) (pick (ltb c.at (8 * length s)) (cursor c.at c.begun c.room 14 (c.at / 8) 0 0) c) c
+unfoldable pub ended_by : List ℕ → Cursor → Cursor
+ended_by s c = pick (eqb c.fault 0) (pick (ltb c.at (8 * length s)) (cursor c.at c.begun c.room 14 (c.at / 8) 0 0) c) c
 
 -- what is answered where a message ends at c, and the place behind it
 unfoldable pub answer_of : Cursor → Message → Answer

@@ -4,14 +4,14 @@ use Rattle.std.specs.Prelude.{ℕ, ◌+◌, ◌≤◌, ◌≡◌, List, ◌++◌
 use Rattle.bits.specs.Bits.{bits}
 use Rattle.apdu_format.specs.Component.{Component}
 use Rattle.apdu_format.specs.Reading.{Value, runs}
-use Rattle.apdu.specs.Values.{rowsValues}
+use Rattle.apdu.specs.Values.{rows_values}
 use Rattle.apdu.specs.Tidy.{RowsTidy}
-use Rattle.apdu.specs.Sound.{rowsSound}
+use Rattle.apdu.specs.Sound.{rows_sound}
 use Rattle.apdu_reading.specs.declared.cursor.Cursor.{Cursor}
 use Rattle.apdu.specs.declared.due.Due.{Due}
 use Rattle.apdu_reading.specs.declared.rows.Rows.{Rows}
 use Rattle.apdu_reading.specs.Cursor.{state_of, ReadsTo}
-use Rattle.apdu.specs.RowCounters.{total, dueList}
+use Rattle.apdu.specs.RowCounters.{total, due_list}
 
 -- reading the components is from c comes to reading js from r, with these values
 pub record Leads (s : List ℕ) (is : List Component) (c : Cursor) (js : List Component) (r : Cursor) (vs : List Value) : Type 0 where
@@ -30,10 +30,10 @@ pub record Ready (o : Due) (r : Rows) : Type 0 where
 
 -- from r to q the due rows are read
 pub record Filled (s : List ℕ) (o : Due) (r q : Rows) : Type 0 where
-  pub reads : ReadsTo s (dueList o) r.cursor q.cursor (rowsValues s (between r.used q.used q.rows))
+  pub reads : ReadsTo s (due_list o) r.cursor q.cursor (rows_values s (between r.used q.used q.rows))
   pub sum : q.cursor.fault ≡ 0 → q.cursor.room + q.used ≡ 32
   pub more : r.used ≤ q.used
-  pub sound : q.cursor.fault ≡ 0 → rowsSound (length s) (total o) (between r.used q.used q.rows) ≡ true
+  pub sound : q.cursor.fault ≡ 0 → rows_sound (length s) (total o) (between r.used q.used q.rows) ≡ true
   pub kept : take r.used q.rows ≡ take r.used r.rows
   pub rest : RowsTidy q.used q.rows
   pub long : length q.rows ≡ 32

@@ -2,7 +2,7 @@
 ghost use Rattle.std.specs.Prelude.{◌≡◌, ◌≤◌, length};
 ghost use Rattle.apdu_reading.specs.Applications.{EntryOpens, Open, EntryWhole, CountMaybe};
 ghost use Rattle.apdu_reading.specs.Messages.{FrontRead};
-ghost use Rattle.apdu_reading.specs.Answers.{noLists, Reads};
+ghost use Rattle.apdu_reading.specs.Answers.{no_lists, Reads};
 
 use crate::component::{count, entry_octet};
 use crate::container::place;
@@ -101,7 +101,7 @@ pub(crate) fn count_if(s: &[u8], p: bool, c: Cursor) -> Cursor
 
 // The lists beside a refusal.
 fn cleared() -> Lists
-    ensures { result ≡ noLists }
+    ensures { result ≡ no_lists }
 {
     let entries = no_entries();
     let rows = no_rows();

@@ -1,11 +1,11 @@
 // A service's message once its rows are read: how many they are, and the number behind them.
 ghost use Rattle.std.specs.Prelude.{◌≡◌};
-ghost use Rattle.apdu_reading.specs.Messages.{requestClosed, actionResponseClosed, setRequestClosed, getResponseClosed, closedBy};
+ghost use Rattle.apdu_reading.specs.Messages.{request_closed, action_response_closed, set_request_closed, get_response_closed, closed_by};
 
 use apdu::{ActionResponse, GetResponse, Message, Request, SetRequest};
 
 fn request_closed(m: Request, rows: usize, iid: u64) -> Request
-    ensures { result ≡ requestClosed m rows iid }
+    ensures { result ≡ request_closed m rows iid }
 {
     Request {
         mode: m.mode,
@@ -25,7 +25,7 @@ fn request_closed(m: Request, rows: usize, iid: u64) -> Request
 }
 
 fn action_response_closed(m: ActionResponse, rows: usize, ret: u64) -> ActionResponse
-    ensures { result ≡ actionResponseClosed m rows ret }
+    ensures { result ≡ action_response_closed m rows ret }
 {
     ActionResponse {
         fill: m.fill,
@@ -43,7 +43,7 @@ fn action_response_closed(m: ActionResponse, rows: usize, ret: u64) -> ActionRes
 }
 
 fn set_request_closed(m: SetRequest, rows: usize, iid: u64) -> SetRequest
-    ensures { result ≡ setRequestClosed m rows iid }
+    ensures { result ≡ set_request_closed m rows iid }
 {
     SetRequest {
         fill: m.fill,
@@ -60,7 +60,7 @@ fn set_request_closed(m: SetRequest, rows: usize, iid: u64) -> SetRequest
 }
 
 fn get_response_closed(m: GetResponse, rows: usize, ret: u64) -> GetResponse
-    ensures { result ≡ getResponseClosed m rows ret }
+    ensures { result ≡ get_response_closed m rows ret }
 {
     GetResponse {
         fill: m.fill,
@@ -77,7 +77,7 @@ fn get_response_closed(m: GetResponse, rows: usize, ret: u64) -> GetResponse
 
 // The message with its number of rows and the number behind them; a message that has none stays as it is.
 pub(crate) fn closed(m: Message, rows: usize, last: u64) -> Message
-    ensures { result ≡ closedBy m rows last }
+    ensures { result ≡ closed_by m rows last }
 {
     match m {
         Message::ActionRequest(x) => Message::ActionRequest(request_closed(x, rows, last)),

@@ -1,7 +1,7 @@
 // The components of 01, each by one function that leaves a cursor with a fault as it is.
 ghost use Rattle.std.specs.Prelude.{◌≡◌, [], ◌∷◌, true, ◌<◌, ◌≤◌, length};
-ghost use Rattle.apdu_format.specs.Component.{integer, stringForm, idCount, rowCount, entryCount, entry, container, choice};
-ghost use Rattle.apdu.specs.Values.{str, idList};
+ghost use Rattle.apdu_format.specs.Component.{integer, string_form, id_count, row_count, entry_count, entry, container, choice};
+ghost use Rattle.apdu.specs.Values.{str, id_list};
 ghost use Rattle.apdu_reading.specs.Cursor.{component, ReadsTo, Inside};
 
 use crate::cursor::{Cursor, judged, marked, piece, skip, spend, whole};
@@ -28,7 +28,7 @@ pub(crate) fn integer(s: &[u8], c: Cursor) -> Cursor
 // A count of ids or of application entries.
 pub(crate) fn count(s: &[u8], c: Cursor) -> Cursor
     requires { length s.now ≤ 512 }
-    ensures { (result ≡ component s.now idCount c) × (result ≡ component s.now entryCount c) × (result.value ≤ 16) }
+    ensures { (result ≡ component s.now id_count c) × (result ≡ component s.now entry_count c) × (result.value ≤ 16) }
 {
     let d = integer(s, c);
     judged(
@@ -42,7 +42,7 @@ pub(crate) fn count(s: &[u8], c: Cursor) -> Cursor
 // A count of attribute rows whose containers stand at the given depth.
 pub(crate) fn row_count(s: &[u8], depth: usize, c: Cursor) -> Cursor
     requires { length s.now ≤ 512 }
-    ensures { (result ≡ component s.now (rowCount depth) c) × (result.value < 128) }
+    ensures { (result ≡ component s.now (row_count depth) c) × (result.value < 128) }
 {
     let d = integer(s, c);
     let many = (apdu::MOST_COUNTED < d.value) | (c.room < d.value);
@@ -71,7 +71,7 @@ pub(crate) fn entry_octet(s: &[u8], c: Cursor) -> Cursor
 // An octet string: its length is the value afterwards, and start the place of its octets.
 pub(crate) fn string(s: &[u8], c: Cursor) -> Cursor
     requires { length s.now ≤ 512 }
-    ensures { ReadsTo s.now (stringForm ∷ []) c result (str s.now result.start result.value) × (result.value < 128) × (result.room ≡ c.room) × Inside s.now true result }
+    ensures { ReadsTo s.now (string_form ∷ []) c result (str s.now result.start result.value) × (result.value < 128) × (result.room ≡ c.room) × Inside s.now true result }
 {
     let p = piece(s, 1, true, c);
     let form = judged(c, refusals::EXTENSION_BIT, p.value == 1, p);
@@ -81,7 +81,7 @@ pub(crate) fn string(s: &[u8], c: Cursor) -> Cursor
 // A list of ids: their number is the value afterwards, and start the place of the first.
 pub(crate) fn id_list(s: &[u8], c: Cursor) -> Cursor
     requires { length s.now ≤ 512 }
-    ensures { ReadsTo s.now (idCount ∷ []) c result (idList s.now result.start result.value) × (result.value < 128) × (result.room ≡ c.room) × Inside s.now true result }
+    ensures { ReadsTo s.now (id_count ∷ []) c result (id_list s.now result.start result.value) × (result.value < 128) × (result.room ≡ c.room) × Inside s.now true result }
 {
     let d = count(s, c);
     let n = d.value;

@@ -1,6 +1,6 @@
 // The cursor: a place in the message's bits, by value. Once a fault is set it stays as it is, so that a message is read straight through.
 ghost use Rattle.std.specs.Prelude.{◌≡◌, true, ◌+◌, ◌^◌, ◌<◌, ◌≤◌, length};
-ghost use Rattle.apdu_reading.specs.Cursor.{cursor, judgedBy, piece_of, spent, markedAt, skipped};
+ghost use Rattle.apdu_reading.specs.Cursor.{cursor, judged_by, piece_of, spent, marked_at, skipped};
 
 // at: the next bit; begun: where the component begins that was read last; room: how many attribute rows may still be announced; fault: 0, or the
 // refusal's number, with its position; value: what the bits read last say; start: where the string or list read last starts.
@@ -33,7 +33,7 @@ fn faulty(c: Cursor, number: u8, position: usize) -> Cursor
 
 // The cursor d, or the refusal of the component that begins at d.begun if a check holds; c is the cursor before it.
 pub(crate) fn judged(c: Cursor, number: u8, wrong: bool, d: Cursor) -> Cursor
-    ensures { result ≡ judgedBy c number wrong d }
+    ensures { result ≡ judged_by c number wrong d }
 {
     if d.fault != 0 {
         return d;
@@ -128,7 +128,7 @@ pub(crate) fn spend(c: Cursor) -> Cursor
 
 // The cursor with the number and the start of a string or list that it has passed.
 pub(crate) fn marked(c: Cursor, value: u64, start: usize) -> Cursor
-    ensures { result ≡ markedAt c value start }
+    ensures { result ≡ marked_at c value start }
 {
     Cursor {
         at: c.at,

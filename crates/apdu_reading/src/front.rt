@@ -2,7 +2,7 @@
 ghost use Rattle.std.specs.Prelude.{◌≡◌, ◌≤◌, length};
 ghost use Rattle.apdu_format.specs.Component.{choice};
 ghost use Rattle.apdu_reading.specs.Cursor.{component};
-ghost use Rattle.apdu_reading.specs.Answers.{refusal, first, endedBy, answer_of, place_of};
+ghost use Rattle.apdu_reading.specs.Answers.{refusal, first, ended_by, answer_of, place_of};
 
 use crate::component::choice;
 use crate::cursor::Cursor;
@@ -57,7 +57,7 @@ pub(crate) fn chosen(s: &[u8]) -> Cursor
 // The cursor behind a message, or 14 if octets are left.
 pub(crate) fn ended(s: &[u8], c: Cursor) -> Cursor
     requires { length s.now ≤ 512 }
-    ensures { result ≡ endedBy s.now c }
+    ensures { result ≡ ended_by s.now c }
 {
     if c.fault != 0 {
         return c;

@@ -1,7 +1,7 @@
 // Components that may be absent: nothing is read, and the value is 0.
 ghost use Rattle.std.specs.Prelude.{[], ◌∷◌, ◌≤◌, length};
-ghost use Rattle.apdu_format.specs.Component.{integer, stringForm, idCount};
-ghost use Rattle.apdu.specs.Values.{num-if, if, str, idList};
+ghost use Rattle.apdu_format.specs.Component.{integer, string_form, id_count};
+ghost use Rattle.apdu.specs.Values.{num_if, if, str, id_list};
 ghost use Rattle.apdu_reading.specs.Cursor.{Inside};
 ghost use Rattle.apdu_reading.specs.Optional.{Maybe, HeadMaybe, AttributesMaybe};
 
@@ -11,7 +11,7 @@ use crate::cursor::{Cursor, marked};
 
 pub(crate) fn integer_if(s: &[u8], p: bool, c: Cursor) -> Cursor
     requires { length s.now ≤ 512 }
-    ensures { Maybe s.now p (integer ∷ []) c result (num-if p result.value) }
+    ensures { Maybe s.now p (integer ∷ []) c result (num_if p result.value) }
 {
     if p {
         return integer(s, c);
@@ -21,7 +21,7 @@ pub(crate) fn integer_if(s: &[u8], p: bool, c: Cursor) -> Cursor
 
 pub(crate) fn string_if(s: &[u8], p: bool, c: Cursor) -> Cursor
     requires { length s.now ≤ 512 }
-    ensures { Maybe s.now p (stringForm ∷ []) c result (if p (str s.now result.start result.value)) × Inside s.now p result }
+    ensures { Maybe s.now p (string_form ∷ []) c result (if p (str s.now result.start result.value)) × Inside s.now p result }
 {
     if p {
         return string(s, c);
@@ -31,7 +31,7 @@ pub(crate) fn string_if(s: &[u8], p: bool, c: Cursor) -> Cursor
 
 pub(crate) fn id_list_if(s: &[u8], p: bool, c: Cursor) -> Cursor
     requires { length s.now ≤ 512 }
-    ensures { Maybe s.now p (idCount ∷ []) c result (if p (idList s.now result.start result.value)) × Inside s.now p result }
+    ensures { Maybe s.now p (id_count ∷ []) c result (if p (id_list s.now result.start result.value)) × Inside s.now p result }
 {
     if p {
         return id_list(s, c);

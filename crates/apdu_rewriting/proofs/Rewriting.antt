@@ -8,42 +8,42 @@ use lib.Dec.{ltb}
 use borrow.Author.Tests.{ltb-true, ltb-false}
 use Rattle.refusals.proofs.Tests.{by_cases}
 use Rattle.bits.specs.Bits.{Octets}
-use Rattle.apdu_format.specs.Reading.{message, readMessage}
+use Rattle.apdu_format.specs.Reading.{message, read_message}
 use Rattle.apdu_format.specs.Reading.{refused as unread}
 use Rattle.apdu_format.specs.RoundTrip.{ReadingEncoded, EncodingRead, OneEncoding, SameEncoded, EncodingsAccepted, LevelsSuffice}
-use Rattle.apdu_format.proofs.Unplaced.{same-encoded}
-use Rattle.apdu_format.proofs.RoundTrip.{reading-encoded, encoding-read, one-encoding, encodings-accepted, levels-suffice}
+use Rattle.apdu_format.proofs.Unplaced.{same_encoded}
+use Rattle.apdu_format.proofs.RoundTrip.{reading_encoded, encoding_read, one_encoding, encodings_accepted, levels_suffice}
 use Rattle.apdu.specs.declared.records.Message.{Message}
 use Rattle.apdu.specs.Values.{values_of}
 use Rattle.apdu_reading.specs.declared.front.Answer.TheVariants as answer
 use Rattle.apdu_reading.specs.declared.front.Reading.{Reading}
-use Rattle.apdu_reading.specs.Answers.{told, outcomeOf, Reads}
+use Rattle.apdu_reading.specs.Answers.{told, outcome_of, Reads}
 use Rattle.apdu_writing.specs.declared.writing.ApduWritten.{ApduWritten}
-use Rattle.apdu_writing.specs.Answer.{writeAnswer, writeOutput}
+use Rattle.apdu_writing.specs.Answer.{write_answer, write_output}
 use Rattle.apdu_writing.specs.Answer as writing
 use Rattle.apdu_rewriting.specs.declared.Rewritten.{Rewritten}
 use Rattle.apdu_rewriting.specs.declared.Rewritten.TheVariants as rewritten
-use Rattle.apdu_rewriting.specs.Rewriting.{answer_of, answerTo, rewriteAnswer, outputFor, rewriteOutput}
+use Rattle.apdu_rewriting.specs.Rewriting.{answer_of, answer_to, rewrite_answer, output_for, rewrite_output}
 use Rattle.apdu_rewriting.specs.RoundTrip.{WrittenBack, WritingRead, ReadingWritten, ReadingExact}
-use Rattle.apdu_rewriting.proofs.RoundTrip.{back, writing-read, reading-written, reading-exact}
+use Rattle.apdu_rewriting.proofs.RoundTrip.{back, writing_read, reading_written, reading_exact}
 
 -- what `rewrite` ensures
 abbrev Rewrites : List ℕ → List ℕ → Rewritten → List ℕ → Type 0
-Rewrites s out q out' = (answer_of q ≡ rewriteAnswer s (length out)) × (out' ≡ rewriteOutput s out)
+Rewrites s out q out' = (answer_of q ≡ rewrite_answer s (length out)) × (out' ≡ rewrite_output s out)
 
 module _ (s out : List ℕ) (r : Reading) (e : Reads s r) where
-  pub reading-refuses : (k p : ℕ) → r.answer ≡ answer.Refused k p → Rewrites s out (rewritten.Refused k p) out
-  unfolding answer_of rewriteAnswer answerTo rewriteOutput outputFor outcomeOf told
-  reading-refuses k p h =
-      let u : readMessage s ≡ unread k p = sym e.outcome ∙ rw h in
+  pub reading_refuses : (k p : ℕ) → r.answer ≡ answer.Refused k p → Rewrites s out (rewritten.Refused k p) out
+  unfolding answer_of rewrite_answer answer_to rewrite_output output_for outcome_of told
+  reading_refuses k p h =
+      let u : read_message s ≡ unread k p = sym e.outcome ∙ rw h in
       (rw u, rw u)
 
-  pub writes-back : Octets s → (m : Message) → r.answer ≡ answer.Message m → (w : ApduWritten) {out' : List ℕ}
-      → (writing.answer_of w ≡ writeAnswer s m r.lists.entries r.lists.rows (length out)) × (out' ≡ writeOutput s m r.lists.entries r.lists.rows out)
+  pub writes_back : Octets s → (m : Message) → r.answer ≡ answer.Message m → (w : ApduWritten) {out' : List ℕ}
+      → (writing.answer_of w ≡ write_answer s m r.lists.entries r.lists.rows (length out)) × (out' ≡ write_output s m r.lists.entries r.lists.rows out)
       → Rewrites s out (rewritten.Written w) out'
-  unfolding answer_of rewriteAnswer answerTo rewriteOutput outputFor outcomeOf told
-  writes-back o m h w f =
-      let u : readMessage s ≡ message (values_of s m r.lists.entries r.lists.rows) r.end = sym e.outcome ∙ rw h in
+  unfolding answer_of rewrite_answer answer_to rewrite_output output_for outcome_of told
+  writes_back o m h w f =
+      let u : read_message s ≡ message (values_of s m r.lists.entries r.lists.rows) r.end = sym e.outcome ∙ rw h in
       let b : WrittenBack s m r.lists.entries r.lists.rows = back s r m o e h in
       by_cases (ltb (length out) (length s))
       (λ t. let x = b.small out (ltb-true (length out) (length s) t) in (f.0 ∙ x.answer ∙ rw (u, t), f.1 ∙ x.output ∙ rw (u, t)))
@@ -54,7 +54,7 @@ abbrev Cited : Type 0
 Cited = WritingRead × (ReadingWritten × (ReadingExact × (EncodingRead × (ReadingEncoded × (OneEncoding × (SameEncoded × (EncodingsAccepted × LevelsSuffice)))))))
 
 cited : Cited
-cited = (writing-read, (reading-written, (reading-exact, (encoding-read, (reading-encoded, (one-encoding, (same-encoded, (encodings-accepted, levels-suffice))))))))
+cited = (writing_read, (reading_written, (reading_exact, (encoding_read, (reading_encoded, (one_encoding, (same_encoded, (encodings_accepted, levels_suffice))))))))
 
-pub with-round-trips : {P : Type 0} → P → P × Cited
-with-round-trips p = (p, cited)
+pub with_round_trips : {P : Type 0} → P → P × Cited
+with_round_trips p = (p, cited)

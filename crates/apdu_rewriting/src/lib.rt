@@ -1,7 +1,7 @@
 // Reading a message and writing what was read: the same octets come back.
 ghost use Rattle.std.specs.Prelude.{◌≡◌, length};
 ghost use Rattle.apdu_format.specs.RoundTrip.{ReadingEncoded, EncodingRead, OneEncoding, SameEncoded, EncodingsAccepted, LevelsSuffice};
-ghost use Rattle.apdu_rewriting.specs.Rewriting.{answer_of, rewriteAnswer, rewriteOutput};
+ghost use Rattle.apdu_rewriting.specs.Rewriting.{answer_of, rewrite_answer, rewrite_output};
 ghost use Rattle.apdu_rewriting.specs.RoundTrip.{WritingRead, ReadingWritten, ReadingExact};
 
 use apdu_reading::{Answer, read};
@@ -18,7 +18,7 @@ pub enum Rewritten {
 // Reads the message that `s` is and writes it to the front of `out`: reading's refusal, else 22 where `out` is shorter than `s`, else the octets of `s`.
 // Every other octet of `out` stays, and a refusal changes nothing. Beside its answer stand demand 2's round trips, about every record and about its values.
 pub fn rewrite(s: &[u8], out: &mut [u8]) -> Rewritten
-    ensures answer { (answer_of result ≡ rewriteAnswer s.now (length out.old)) × (out.new ≡ rewriteOutput s.now out.old) }
+    ensures answer { (answer_of result ≡ rewrite_answer s.now (length out.old)) × (out.new ≡ rewrite_output s.now out.old) }
     ensures writing_read { WritingRead }
     ensures reading_written { ReadingWritten }
     ensures reading_exact { ReadingExact }

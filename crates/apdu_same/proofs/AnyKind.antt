@@ -25,10 +25,10 @@ use Rattle.apdu.specs.declared.records.Vst.{Vst}
 use Rattle.apdu.specs.declared.records.Message.{Message}
 use Rattle.apdu.specs.declared.records.Message.TheVariants as kind
 use Rattle.apdu.specs.contracts.records.Message as message
-use Rattle.apdu.specs.Values.{requestValues, actionResponseValues, responseValues, setRequestValues, getRequestValues, getResponseValues, bstValues, vstValues, values_of}
-use Rattle.apdu.specs.Sound.{requestSound, actionResponseSound, setRequestSound, getRequestSound, getResponseSound, bstSound, vstSound, sound}
+use Rattle.apdu.specs.Values.{request_values, action_response_values, response_values, set_request_values, get_request_values, get_response_values, bst_values, vst_values, values_of}
+use Rattle.apdu.specs.Sound.{request_sound, action_response_sound, set_request_sound, get_request_sound, get_response_sound, bst_sound, vst_sound, sound}
 use Rattle.apdu_same.specs.Walk.{Agree, Compares}
-use Rattle.apdu_same.proofs.Agreement.{agree-as, agree-field, agree_then}
+use Rattle.apdu_same.proofs.Agreement.{agree_as, agree_field, agree_then}
 
 -- ---- choices
 
@@ -44,17 +44,17 @@ choice_of (kind.GetResponse x) = 7
 choice_of (kind.Bst x) = 8
 choice_of (kind.Vst x) = 9
 
-tag-choice : (m : Message) → Declared.tag_of message.the_type m ≡ choice_of m
-tag-choice (kind.ActionRequest x) = refl
-tag-choice (kind.ActionResponse x) = refl
-tag-choice (kind.EventRequest x) = refl
-tag-choice (kind.EventResponse x) = refl
-tag-choice (kind.SetRequest x) = refl
-tag-choice (kind.SetResponse x) = refl
-tag-choice (kind.GetRequest x) = refl
-tag-choice (kind.GetResponse x) = refl
-tag-choice (kind.Bst x) = refl
-tag-choice (kind.Vst x) = refl
+tag_choice : (m : Message) → Declared.tag_of message.the_type m ≡ choice_of m
+tag_choice (kind.ActionRequest x) = refl
+tag_choice (kind.ActionResponse x) = refl
+tag_choice (kind.EventRequest x) = refl
+tag_choice (kind.EventResponse x) = refl
+tag_choice (kind.SetRequest x) = refl
+tag_choice (kind.SetResponse x) = refl
+tag_choice (kind.GetRequest x) = refl
+tag_choice (kind.GetResponse x) = refl
+tag_choice (kind.Bst x) = refl
+tag_choice (kind.Vst x) = refl
 
 -- a message begins with its choice
 record Begins (vs : List Value) (k : ℕ) : Type 0 where
@@ -63,28 +63,28 @@ record Begins (vs : List Value) (k : ℕ) : Type 0 where
 
 begins : (s : List ℕ) (m : Message) (es : List Entry) (vs : List Row) → Begins (values_of s m es vs) (choice_of m)
 unfolding values_of
-begins s (kind.ActionRequest x) es vs = record { rest = requestValues s x vs; is = refl }
-begins s (kind.ActionResponse x) es vs = record { rest = actionResponseValues s x vs; is = refl }
-begins s (kind.EventRequest x) es vs = record { rest = requestValues s x vs; is = refl }
-begins s (kind.EventResponse x) es vs = record { rest = responseValues x; is = refl }
-begins s (kind.SetRequest x) es vs = record { rest = setRequestValues s x vs; is = refl }
-begins s (kind.SetResponse x) es vs = record { rest = responseValues x; is = refl }
-begins s (kind.GetRequest x) es vs = record { rest = getRequestValues s x; is = refl }
-begins s (kind.GetResponse x) es vs = record { rest = getResponseValues s x vs; is = refl }
-begins s (kind.Bst x) es vs = record { rest = bstValues s x es vs; is = refl }
-begins s (kind.Vst x) es vs = record { rest = vstValues s x es vs; is = refl }
+begins s (kind.ActionRequest x) es vs = record { rest = request_values s x vs; is = refl }
+begins s (kind.ActionResponse x) es vs = record { rest = action_response_values s x vs; is = refl }
+begins s (kind.EventRequest x) es vs = record { rest = request_values s x vs; is = refl }
+begins s (kind.EventResponse x) es vs = record { rest = response_values x; is = refl }
+begins s (kind.SetRequest x) es vs = record { rest = set_request_values s x vs; is = refl }
+begins s (kind.SetResponse x) es vs = record { rest = response_values x; is = refl }
+begins s (kind.GetRequest x) es vs = record { rest = get_request_values s x; is = refl }
+begins s (kind.GetResponse x) es vs = record { rest = get_response_values s x vs; is = refl }
+begins s (kind.Bst x) es vs = record { rest = bst_values s x es vs; is = refl }
+begins s (kind.Vst x) es vs = record { rest = vst_values s x es vs; is = refl }
 
-choices-differ : {us vs : List Value} {k l : ℕ} → Begins us k → Begins vs l → (k ≡ l → ⊥) → Agree us vs false
-choices-differ {k = k} {l = l} p q h =
+choices_differ : {us vs : List Value} {k l : ℕ} → Begins us k → Begins vs l → (k ≡ l → ⊥) → Agree us vs false
+choices_differ {k = k} {l = l} p q h =
     rw (p.is, q.is)
-    (agree-as (and_first false (ne_eqb k l h)) (agree_then {us' = p.rest} {vs' = q.rest} {r' = false} (agree-field k l) (λ e. never (sym (ne_eqb k l h) ∙ e))))
+    (agree_as (and_first false (ne_eqb k l h)) (agree_then {us' = p.rest} {vs' = q.rest} {r' = false} (agree_field k l) (λ e. never (sym (ne_eqb k l h) ∙ e))))
   where
     and_first : {a : Bool} (b : Bool) → a ≡ false → (a && b) ≡ false
     and_first b e = rw e
 
 -- behind the same choice
 behind : (k : ℕ) {f g r : Bool} {us vs : List Value} → Compares f g us vs r → Compares f g (fields (k ∷ []) ∷ us) (fields (k ∷ []) ∷ vs) r
-behind k {r = r} h = record { so = λ x y. agree-as (alone (eq-eqb k k refl)) (agree_then (agree-field k k) (λ e. h.so x y)) }
+behind k {r = r} h = record { so = λ x y. agree_as (alone (eq-eqb k k refl)) (agree_then (agree_field k k) (λ e. h.so x y)) }
   where
     alone : {a : Bool} → a ≡ true → (a && r) ≡ r
     alone e = rw e
@@ -93,67 +93,67 @@ behind k {r = r} h = record { so = λ x y. agree-as (alone (eq-eqb k k refl)) (a
 
 module _ (s : List ℕ) (a : Message) (es : List Entry) (vs : List Row) (t : List ℕ) (b : Message) (fs : List Entry) (ws : List Row) where
   -- b's tag is one of ks, and k is none of them
-  pub other-kind : (k : ℕ) (ks : List ℕ) {f g : Bool} → choice_of a ≡ k → OneOf ks (Declared.tag_of message.the_type b) → T (not (has_key ks k))
+  pub other_kind : (k : ℕ) (ks : List ℕ) {f g : Bool} → choice_of a ≡ k → OneOf ks (Declared.tag_of message.the_type b) → T (not (has_key ks k))
       → Compares f g (values_of s a es vs) (values_of t b fs ws) false
-  other-kind k ks e o n =
-      record { so = λ x y. choices-differ (begins s a es vs) (begins t b fs ws) (λ z. miss ks k n (rw (tag-choice b ∙ sym z ∙ e) at o)) }
+  other_kind k ks e o n =
+      record { so = λ x y. choices_differ (begins s a es vs) (begins t b fs ws) (λ z. miss ks k n (rw (tag_choice b ∙ sym z ∙ e) at o)) }
 
-  pub same-0 : {x y : Request} {r : Bool} → a ≡ kind.ActionRequest x → b ≡ kind.ActionRequest y
-      → Compares (requestSound (length s) x vs) (requestSound (length t) y ws) (requestValues s x vs) (requestValues t y ws) r
+  pub same_0 : {x y : Request} {r : Bool} → a ≡ kind.ActionRequest x → b ≡ kind.ActionRequest y
+      → Compares (request_sound (length s) x vs) (request_sound (length t) y ws) (request_values s x vs) (request_values t y ws) r
       → Compares (sound (length s) a es vs) (sound (length t) b fs ws) (values_of s a es vs) (values_of t b fs ws) r
   unfolding sound values_of
-  same-0 e f h = rw (e, f) (behind 0 h)
+  same_0 e f h = rw (e, f) (behind 0 h)
 
-  pub same-1 : {x y : ActionResponse} {r : Bool} → a ≡ kind.ActionResponse x → b ≡ kind.ActionResponse y
-      → Compares (actionResponseSound (length s) x vs) (actionResponseSound (length t) y ws) (actionResponseValues s x vs) (actionResponseValues t y ws) r
+  pub same_1 : {x y : ActionResponse} {r : Bool} → a ≡ kind.ActionResponse x → b ≡ kind.ActionResponse y
+      → Compares (action_response_sound (length s) x vs) (action_response_sound (length t) y ws) (action_response_values s x vs) (action_response_values t y ws) r
       → Compares (sound (length s) a es vs) (sound (length t) b fs ws) (values_of s a es vs) (values_of t b fs ws) r
   unfolding sound values_of
-  same-1 e f h = rw (e, f) (behind 1 h)
+  same_1 e f h = rw (e, f) (behind 1 h)
 
-  pub same-2 : {x y : Request} {r : Bool} → a ≡ kind.EventRequest x → b ≡ kind.EventRequest y
-      → Compares (requestSound (length s) x vs) (requestSound (length t) y ws) (requestValues s x vs) (requestValues t y ws) r
+  pub same_2 : {x y : Request} {r : Bool} → a ≡ kind.EventRequest x → b ≡ kind.EventRequest y
+      → Compares (request_sound (length s) x vs) (request_sound (length t) y ws) (request_values s x vs) (request_values t y ws) r
       → Compares (sound (length s) a es vs) (sound (length t) b fs ws) (values_of s a es vs) (values_of t b fs ws) r
   unfolding sound values_of
-  same-2 e f h = rw (e, f) (behind 2 h)
+  same_2 e f h = rw (e, f) (behind 2 h)
 
-  pub same-3 : {x y : Response} {r : Bool} → a ≡ kind.EventResponse x → b ≡ kind.EventResponse y
-      → Compares true true (responseValues x) (responseValues y) r
+  pub same_3 : {x y : Response} {r : Bool} → a ≡ kind.EventResponse x → b ≡ kind.EventResponse y
+      → Compares true true (response_values x) (response_values y) r
       → Compares (sound (length s) a es vs) (sound (length t) b fs ws) (values_of s a es vs) (values_of t b fs ws) r
   unfolding sound values_of
-  same-3 e f h = rw (e, f) (behind 3 h)
+  same_3 e f h = rw (e, f) (behind 3 h)
 
-  pub same-4 : {x y : SetRequest} {r : Bool} → a ≡ kind.SetRequest x → b ≡ kind.SetRequest y
-      → Compares (setRequestSound (length s) x vs) (setRequestSound (length t) y ws) (setRequestValues s x vs) (setRequestValues t y ws) r
+  pub same_4 : {x y : SetRequest} {r : Bool} → a ≡ kind.SetRequest x → b ≡ kind.SetRequest y
+      → Compares (set_request_sound (length s) x vs) (set_request_sound (length t) y ws) (set_request_values s x vs) (set_request_values t y ws) r
       → Compares (sound (length s) a es vs) (sound (length t) b fs ws) (values_of s a es vs) (values_of t b fs ws) r
   unfolding sound values_of
-  same-4 e f h = rw (e, f) (behind 4 h)
+  same_4 e f h = rw (e, f) (behind 4 h)
 
-  pub same-5 : {x y : Response} {r : Bool} → a ≡ kind.SetResponse x → b ≡ kind.SetResponse y
-      → Compares true true (responseValues x) (responseValues y) r
+  pub same_5 : {x y : Response} {r : Bool} → a ≡ kind.SetResponse x → b ≡ kind.SetResponse y
+      → Compares true true (response_values x) (response_values y) r
       → Compares (sound (length s) a es vs) (sound (length t) b fs ws) (values_of s a es vs) (values_of t b fs ws) r
   unfolding sound values_of
-  same-5 e f h = rw (e, f) (behind 5 h)
+  same_5 e f h = rw (e, f) (behind 5 h)
 
-  pub same-6 : {x y : GetRequest} {r : Bool} → a ≡ kind.GetRequest x → b ≡ kind.GetRequest y
-      → Compares (getRequestSound (length s) x) (getRequestSound (length t) y) (getRequestValues s x) (getRequestValues t y) r
+  pub same_6 : {x y : GetRequest} {r : Bool} → a ≡ kind.GetRequest x → b ≡ kind.GetRequest y
+      → Compares (get_request_sound (length s) x) (get_request_sound (length t) y) (get_request_values s x) (get_request_values t y) r
       → Compares (sound (length s) a es vs) (sound (length t) b fs ws) (values_of s a es vs) (values_of t b fs ws) r
   unfolding sound values_of
-  same-6 e f h = rw (e, f) (behind 6 h)
+  same_6 e f h = rw (e, f) (behind 6 h)
 
-  pub same-7 : {x y : GetResponse} {r : Bool} → a ≡ kind.GetResponse x → b ≡ kind.GetResponse y
-      → Compares (getResponseSound (length s) x vs) (getResponseSound (length t) y ws) (getResponseValues s x vs) (getResponseValues t y ws) r
+  pub same_7 : {x y : GetResponse} {r : Bool} → a ≡ kind.GetResponse x → b ≡ kind.GetResponse y
+      → Compares (get_response_sound (length s) x vs) (get_response_sound (length t) y ws) (get_response_values s x vs) (get_response_values t y ws) r
       → Compares (sound (length s) a es vs) (sound (length t) b fs ws) (values_of s a es vs) (values_of t b fs ws) r
   unfolding sound values_of
-  same-7 e f h = rw (e, f) (behind 7 h)
+  same_7 e f h = rw (e, f) (behind 7 h)
 
-  pub same-8 : {x y : Bst} {r : Bool} → a ≡ kind.Bst x → b ≡ kind.Bst y
-      → Compares (bstSound (length s) x es vs) (bstSound (length t) y fs ws) (bstValues s x es vs) (bstValues t y fs ws) r
+  pub same_8 : {x y : Bst} {r : Bool} → a ≡ kind.Bst x → b ≡ kind.Bst y
+      → Compares (bst_sound (length s) x es vs) (bst_sound (length t) y fs ws) (bst_values s x es vs) (bst_values t y fs ws) r
       → Compares (sound (length s) a es vs) (sound (length t) b fs ws) (values_of s a es vs) (values_of t b fs ws) r
   unfolding sound values_of
-  same-8 e f h = rw (e, f) (behind 8 h)
+  same_8 e f h = rw (e, f) (behind 8 h)
 
-  pub same-9 : {x y : Vst} {r : Bool} → a ≡ kind.Vst x → b ≡ kind.Vst y
-      → Compares (vstSound (length s) x es vs) (vstSound (length t) y fs ws) (vstValues s x es vs) (vstValues t y fs ws) r
+  pub same_9 : {x y : Vst} {r : Bool} → a ≡ kind.Vst x → b ≡ kind.Vst y
+      → Compares (vst_sound (length s) x es vs) (vst_sound (length t) y fs ws) (vst_values s x es vs) (vst_values t y fs ws) r
       → Compares (sound (length s) a es vs) (sound (length t) b fs ws) (values_of s a es vs) (values_of t b fs ws) r
   unfolding sound values_of
-  same-9 e f h = rw (e, f) (behind 9 h)
+  same_9 e f h = rw (e, f) (behind 9 h)

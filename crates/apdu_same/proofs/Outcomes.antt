@@ -8,76 +8,76 @@ use native.Mathlib.Omega.{arith}
 use lib.Dec.{eqb}
 use borrow.Author.Tests.{eq-eqb, ne_eqb, not-true, not-false}
 use Rattle.refusals.specs.Check.{pick}
-use Rattle.bits.specs.Strings.{sameString}
+use Rattle.bits.specs.Strings.{same_string}
 use Rattle.apdu.specs.Values.{bit_of}
-use Rattle.apdu_same.specs.Walk.{sameIf, sameHead}
+use Rattle.apdu_same.specs.Walk.{same_if, same_head}
 
 -- ---- fields
 
 module _ (p q : Bool) where
-  pub flag-set : p ≡ true → q ≡ eqb (bit_of p) (bit_of q)
-  flag-set e = rw e (bit-one q)
+  pub flag_set : p ≡ true → q ≡ eqb (bit_of p) (bit_of q)
+  flag_set e = rw e (bit_one q)
     where
-      bit-one : (q : Bool) → q ≡ eqb 1 (bit_of q)
-      bit-one true = refl
-      bit-one false = refl
+      bit_one : (q : Bool) → q ≡ eqb 1 (bit_of q)
+      bit_one true = refl
+      bit_one false = refl
 
-  pub flag-clear : p ≡ false → not q ≡ eqb (bit_of p) (bit_of q)
-  flag-clear e = rw e (bit-none q)
+  pub flag_clear : p ≡ false → not q ≡ eqb (bit_of p) (bit_of q)
+  flag_clear e = rw e (bit_none q)
     where
-      bit-none : (q : Bool) → not q ≡ eqb 0 (bit_of q)
-      bit-none true = refl
-      bit-none false = refl
+      bit_none : (q : Bool) → not q ≡ eqb 0 (bit_of q)
+      bit_none true = refl
+      bit_none false = refl
 
-pub if-there : (b p : Bool) {x r : Bool} → (b && p) ≡ true → r ≡ x → r ≡ sameIf b p x
-unfolding sameIf
-if-there true true h e = e
-if-there true false h e = let z : ◌≡◌ {A = ℕ} 0 1 = cc in absurd (omega arith)
-if-there false p h e = let z : ◌≡◌ {A = ℕ} 0 1 = cc in absurd (omega arith)
+pub if_there : (b p : Bool) {x r : Bool} → (b && p) ≡ true → r ≡ x → r ≡ same_if b p x
+unfolding same_if
+if_there true true h e = e
+if_there true false h e = let z : ◌≡◌ {A = ℕ} 0 1 = cc in absurd (omega arith)
+if_there false p h e = let z : ◌≡◌ {A = ℕ} 0 1 = cc in absurd (omega arith)
 
-pub if-passed : (b p x : Bool) → (b && p) ≡ false → b ≡ sameIf b p x
-unfolding sameIf
-if-passed true true x h = let z : ◌≡◌ {A = ℕ} 0 1 = cc in absurd (omega arith)
-if-passed true false x h = refl
-if-passed false p x h = refl
+pub if_passed : (b p x : Bool) → (b && p) ≡ false → b ≡ same_if b p x
+unfolding same_if
+if_passed true true x h = let z : ◌≡◌ {A = ℕ} 0 1 = cc in absurd (omega arith)
+if_passed true false x h = refl
+if_passed false p x h = refl
 
 -- a count in front of what it counts
 module _ (n m : ℕ) where
-  pub count-other : (x : Bool) → (n ≡ m → ⊥) → false ≡ (eqb n m && x)
-  count-other x h = rw (ne_eqb n m h)
+  pub count_other : (x : Bool) → (n ≡ m → ⊥) → false ≡ (eqb n m && x)
+  count_other x h = rw (ne_eqb n m h)
 
   pub count_same : {x r : Bool} → n ≡ m → r ≡ x → r ≡ (eqb n m && x)
   count_same h e = rw (eq-eqb n m h) e
 
 -- one of two in front of the other
-pub first-other : {a : Bool} (b : Bool) {r : Bool} → r ≡ a → not r ≡ true → false ≡ (a && b)
-first-other b {r} e h = rw (← e, not-true r h)
+pub first_other : {a : Bool} (b : Bool) {r : Bool} → r ≡ a → not r ≡ true → false ≡ (a && b)
+first_other b {r} e h = rw (← e, not-true r h)
 
-pub first-same : {a b r x : Bool} → r ≡ a → not r ≡ false → x ≡ b → x ≡ (a && b)
-first-same {r = r} e h f = rw (← e, not-false r h) f
+pub first_same : {a b r x : Bool} → r ≡ a → not r ≡ false → x ≡ b → x ≡ (a && b)
+first_same {r = r} e h f = rw (← e, not-false r h) f
 
 -- ---- containers
 
 -- the rows of an attribute list
-pub list-rows : (k : ℕ) {r x : Bool} → k ≡ 9 → r ≡ x → r ≡ pick (eqb k 9) x true
-list-rows k e h = rw (eq-eqb k 9 e) h
+pub list_rows_law : (k : ℕ) {r x : Bool} → k ≡ 9 → r ≡ x → r ≡ pick (eqb k 9) x true
+list_rows_law k e h = rw (eq-eqb k 9 e) h
 
-pub other-rows : (k : ℕ) (x : Bool) → (k ≡ 9 → ⊥) → true ≡ pick (eqb k 9) x true
-other-rows k x h = rw (ne_eqb k 9 h)
+pub other_rows_law : (k : ℕ) (x : Bool) → (k ≡ 9 → ⊥) → true ≡ pick (eqb k 9) x true
+other_rows_law k x h = rw (ne_eqb k 9 h)
 
 module _ (s : List ℕ) (k n start : ℕ) (t : List ℕ) (l m at : ℕ) where
-  pub head-kind : (k ≡ l → ⊥) → false ≡ sameHead s k n start t l m at
-  unfolding sameHead
-  head-kind h = count-other k l _ h
+  pub head_kind : (k ≡ l → ⊥) → false ≡ same_head s k n start t l m at
+  unfolding same_head
+  head_kind h = count_other k l _ h
 
-  pub head-count : k ≡ l → (n ≡ m → ⊥) → false ≡ sameHead s k n start t l m at
-  unfolding sameHead
-  head-count e h = count_same k l e (count-other n m _ h)
+  pub head_count : k ≡ l → (n ≡ m → ⊥) → false ≡ same_head s k n start t l m at
+  unfolding same_head
+  head_count e h = count_same k l e (count_other n m _ h)
 
-  pub head-part : {r : Bool} → k ≡ l → n ≡ m → (eqb k 2 || eqb k 8) ≡ true → r ≡ sameString s start t at n → r ≡ sameHead s k n start t l m at
-  unfolding sameHead
-  head-part e f h g = count_same k l e (count_same n m f (rw h g))
+  pub head_part : {r : Bool} → k ≡ l → n ≡ m → (eqb k 2 || eqb k 8) ≡ true → r ≡ same_string s start t at n → r ≡ same_head s k n start t l m at
+  unfolding same_head
+  head_part e f h g = count_same k l e (count_same n m f (rw h g))
 
-  pub head-number : k ≡ l → n ≡ m → (eqb k 2 || eqb k 8) ≡ false → true ≡ sameHead s k n start t l m at
-  unfolding sameHead
-  head-number e f h = count_same k l e (count_same n m f (rw h))
+  pub head_number : k ≡ l → n ≡ m → (eqb k 2 || eqb k 8) ≡ false → true ≡ same_head s k n start t l m at
+  unfolding same_head
+  head_number e f h = count_same k l e (count_same n m f (rw h))

@@ -4,34 +4,34 @@
 -- Assumes nothing.
 use Rattle.std.specs.Prelude.{ℕ, ◌≡◌, List, [], ◌∷◌, Bool, true, false, ◌&&◌, ◌||◌, not}
 use Rattle.refusals.specs.Check.{check, first_of, Answer, refused, accepted, decided}
-use Rattle.bits.specs.Strings.{sameOctets as same_numbers}
+use Rattle.bits.specs.Strings.{same_octets as same_numbers}
 use Rattle.apdu_format.specs.Reading.{Value, fields, string}
 use Rattle.apdu_format.specs.RoundTrip.{Same}
 use Rattle.apdu.specs.declared.lists.Row.{Row}
 use Rattle.apdu.specs.declared.lists.Entry.{Entry}
 use Rattle.apdu.specs.declared.records.Message.{Message}
 use Rattle.apdu.specs.Values.{values_of}
-use Rattle.apdu.specs.Sound.{wellFormed}
+use Rattle.apdu.specs.Sound.{well_formed}
 use Rattle.apdu_same.specs.declared.comparing.Compared.{Compared}
 use Rattle.apdu_same.specs.declared.comparing.Compared.TheVariants as compared
 
 -- the fields of a component agree, or a string's bits, wherever it stands
-unfoldable pub sameValue : Value → Value → Bool
-sameValue (fields fs) (fields gs) = same_numbers fs gs
-sameValue (fields fs) (string at l) = false
-sameValue (string at l) (fields gs) = false
-sameValue (string at l) (string from m) = same_numbers l m
+unfoldable pub same_value : Value → Value → Bool
+same_value (fields fs) (fields gs) = same_numbers fs gs
+same_value (fields fs) (string at l) = false
+same_value (string at l) (fields gs) = false
+same_value (string at l) (string from m) = same_numbers l m
 
-unfoldable pub sameMessage : List Value → List Value → Bool
-sameMessage [] [] = true
-sameMessage [] (v ∷ vs) = false
-sameMessage (u ∷ us) [] = false
-sameMessage (u ∷ us) (v ∷ vs) = sameValue u v && sameMessage us vs
+unfoldable pub same_message : List Value → List Value → Bool
+same_message [] [] = true
+same_message [] (v ∷ vs) = false
+same_message (u ∷ us) [] = false
+same_message (u ∷ us) (v ∷ vs) = same_value u v && same_message us vs
 
 -- 23 if either record breaks its condition, else whether they agree
-unfoldable pub sameAnswer : List ℕ → Message → List Entry → List Row → List ℕ → Message → List Entry → List Row → Answer Bool
-sameAnswer s a es rs t b fs ws =
-    decided (first_of (check 23 (not (wellFormed s a es rs) || not (wellFormed t b fs ws)) ∷ [])) (sameMessage (values_of s a es rs) (values_of t b fs ws))
+unfoldable pub same_answer : List ℕ → Message → List Entry → List Row → List ℕ → Message → List Entry → List Row → Answer Bool
+same_answer s a es rs t b fs ws =
+    decided (first_of (check 23 (not (well_formed s a es rs) || not (well_formed t b fs ws)) ∷ [])) (same_message (values_of s a es rs) (values_of t b fs ws))
 
 unfoldable pub answer_of : Compared → Answer Bool
 answer_of compared.RecordOutOfRange = refused 23
@@ -42,7 +42,7 @@ answer_of compared.Different = accepted false
 
 -- two messages compare as the same exactly when all their values agree
 unfoldable pub SameExactly : Type 0
-SameExactly = (us vs : List Value) → (sameMessage us vs ≡ true → Same us vs) × (Same us vs → sameMessage us vs ≡ true)
+SameExactly = (us vs : List Value) → (same_message us vs ≡ true → Same us vs) × (Same us vs → same_message us vs ≡ true)
 
 -- what an answer says of two records with the values us and vs; kept tells whether both keep the condition of 23
 unfoldable pub Means : Compared → (kept : Bool) → List Value → List Value → Type 0
@@ -53,5 +53,5 @@ Means compared.Different kept us vs = (kept ≡ true) × (Same us vs → ⊥)
 unfoldable pub SameRecords : Type 0
 SameRecords =
     (s : List ℕ) (a : Message) (es : List Entry) (rs : List Row) (t : List ℕ) (b : Message) (fs : List Entry) (ws : List Row) (r : Compared)
-    → answer_of r ≡ sameAnswer s a es rs t b fs ws
-    → Means r (wellFormed s a es rs && wellFormed t b fs ws) (values_of s a es rs) (values_of t b fs ws)
+    → answer_of r ≡ same_answer s a es rs t b fs ws
+    → Means r (well_formed s a es rs && well_formed t b fs ws) (values_of s a es rs) (values_of t b fs ws)

@@ -1,6 +1,6 @@
 // Comparing two messages.
 ghost use Rattle.std.specs.Prelude.{◌≡◌};
-ghost use Rattle.apdu_same.specs.Comparison.{answer_of, sameAnswer, SameExactly, SameRecords};
+ghost use Rattle.apdu_same.specs.Comparison.{answer_of, same_answer, SameExactly, SameRecords};
 
 use crate::message::agree;
 use apdu::{Entry, Message, Row};
@@ -25,7 +25,7 @@ pub fn same(
     b_entries: [Entry; 32],
     b_lent: &[u8],
 ) -> Compared
-    ensures answer { answer_of result ≡ sameAnswer a_lent.now a a_entries a_rows b_lent.now b b_entries b_rows }
+    ensures answer { answer_of result ≡ same_answer a_lent.now a a_entries a_rows b_lent.now b b_entries b_rows }
     ensures exactly { SameExactly }
     ensures records { SameRecords }
 {

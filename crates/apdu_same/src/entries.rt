@@ -1,7 +1,7 @@
 // Application entries of two records, with their attribute rows.
 ghost use Rattle.std.specs.Prelude.{◌≡◌, ◌<◌, take, drop};
 ghost use Rattle.apdu.specs.Values.{rows_of};
-ghost use Rattle.apdu_same.specs.Walk.{sameIf, sameEntry, listsRows, sameEntries, sameApplications};
+ghost use Rattle.apdu_same.specs.Walk.{same_if, same_entry, lists_rows, same_entries, same_applications};
 
 use crate::fields::{flag, number_if};
 use crate::rows::{head, rows};
@@ -9,7 +9,7 @@ use apdu::{Entry, Row, clamped, entry_rows};
 
 // Two entries without the rows of their parameters.
 fn entry(s: &[u8], e: Entry, t: &[u8], f: Entry) -> bool
-    ensures { result ≡ sameEntry s.now e t.now f }
+    ensures { result ≡ same_entry s.now e t.now f }
 {
     let lead = flag(e.has_eid, f.has_eid)
         & (flag(e.has_parameter, f.has_parameter) & (e.aid == f.aid));
@@ -31,7 +31,7 @@ fn entry(s: &[u8], e: Entry, t: &[u8], f: Entry) -> bool
 
 // Whether the parameter of an entry is an attribute list.
 fn lists_rows(e: Entry) -> bool
-    ensures { result ≡ listsRows e }
+    ensures { result ≡ lists_rows e }
 {
     e.has_parameter & (e.kind as u64 == apdu::ATTRIBUTE_LIST)
 }
@@ -65,7 +65,7 @@ fn applications(
     n: usize,
 ) -> bool
     requires { (first < 65536) × (at < 65536) }
-    ensures { result ≡ sameEntries s.now (take n (drop from list)) (drop first table) t.now (take n (drop from other)) (drop at others) }
+    ensures { result ≡ same_entries s.now (take n (drop from list)) (drop first table) t.now (take n (drop from other)) (drop at others) }
 {
     let k = clamped(from, n);
     let mut used = first;
@@ -108,7 +108,7 @@ pub(crate) fn applications_if(
     from: usize,
 ) -> bool
     requires { (first < 65536) × (at < 65536) }
-    ensures { result ≡ sameIf before p (sameApplications s.now n (take n (drop from list)) (drop first table) t.now m (take n (drop from other)) (drop at others)) }
+    ensures { result ≡ same_if before p (same_applications s.now n (take n (drop from list)) (drop first table) t.now m (take n (drop from other)) (drop at others)) }
 {
     if before & p {
         if n != m {

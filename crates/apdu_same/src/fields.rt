@@ -1,7 +1,7 @@
 // Fields of two records. A comparison stops where what went before differs.
 ghost use Rattle.std.specs.Prelude.{◌≡◌, eqb};
 ghost use Rattle.apdu.specs.Values.{bit_of};
-ghost use Rattle.apdu_same.specs.Walk.{sameIf, samePart};
+ghost use Rattle.apdu_same.specs.Walk.{same_if, same_part};
 
 // Two bits: presences or modes.
 pub(crate) fn flag(p: bool, q: bool) -> bool
@@ -15,7 +15,7 @@ pub(crate) fn flag(p: bool, q: bool) -> bool
 
 // Two numbers, if they are there.
 pub(crate) fn number_if(before: bool, p: bool, n: u64, m: u64) -> bool
-    ensures { result ≡ sameIf before p (eqb n m) }
+    ensures { result ≡ same_if before p (eqb n m) }
 {
     if before & p {
         return n == m;
@@ -34,7 +34,7 @@ pub(crate) fn part_if(
     at: usize,
     m: u64,
 ) -> bool
-    ensures { result ≡ sameIf before p (samePart s.now start n t.now at m) }
+    ensures { result ≡ same_if before p (same_part s.now start n t.now at m) }
 {
     if before & p {
         if n != m {

@@ -1,7 +1,7 @@
 // The messages behind their choice, one function for each kind of record.
 ghost use Rattle.std.specs.Prelude.{true, length};
-ghost use Rattle.apdu.specs.Values.{responseValues, requestValues, actionResponseValues, setRequestValues, getRequestValues, getResponseValues};
-ghost use Rattle.apdu.specs.Sound.{requestSound, actionResponseSound, setRequestSound, getRequestSound, getResponseSound};
+ghost use Rattle.apdu.specs.Values.{response_values, request_values, action_response_values, set_request_values, get_request_values, get_response_values};
+ghost use Rattle.apdu.specs.Sound.{request_sound, action_response_sound, set_request_sound, get_request_sound, get_response_sound};
 ghost use Rattle.apdu_same.specs.Walk.{Compares};
 
 use crate::fields::{flag, number_if, part_if};
@@ -10,7 +10,7 @@ use apdu::{ActionResponse, GetRequest, GetResponse, Request, Response, Row, SetR
 
 // Event or set responses.
 pub(crate) fn response(a: Response, b: Response) -> bool
-    ensures { Compares true true (responseValues a) (responseValues b) result }
+    ensures { Compares true true (response_values a) (response_values b) result }
 {
     let lead = flag(a.has_iid, b.has_iid) & (flag(a.has_ret, b.has_ret) & (a.fill == b.fill));
     if !lead {
@@ -30,7 +30,7 @@ pub(crate) fn request(
     b: Request,
     other: [Row; 32],
 ) -> bool
-    ensures { Compares (requestSound (length s.now) a table) (requestSound (length t.now) b other) (requestValues s.now a table) (requestValues t.now b other) result }
+    ensures { Compares (request_sound (length s.now) a table) (request_sound (length t.now) b other) (request_values s.now a table) (request_values t.now b other) result }
 {
     let lead = flag(a.has_credentials, b.has_credentials)
         & (flag(a.has_parameter, b.has_parameter)
@@ -77,7 +77,7 @@ pub(crate) fn action_response(
     b: ActionResponse,
     other: [Row; 32],
 ) -> bool
-    ensures { Compares (actionResponseSound (length s.now) a table) (actionResponseSound (length t.now) b other) (actionResponseValues s.now a table) (actionResponseValues t.now b other) result }
+    ensures { Compares (action_response_sound (length s.now) a table) (action_response_sound (length t.now) b other) (action_response_values s.now a table) (action_response_values t.now b other) result }
 {
     let lead = flag(a.has_iid, b.has_iid)
         & (flag(a.has_parameter, b.has_parameter)
@@ -114,7 +114,7 @@ pub(crate) fn set_request(
     b: SetRequest,
     other: [Row; 32],
 ) -> bool
-    ensures { Compares (setRequestSound (length s.now) a table) (setRequestSound (length t.now) b other) (setRequestValues s.now a table) (setRequestValues t.now b other) result }
+    ensures { Compares (set_request_sound (length s.now) a table) (set_request_sound (length t.now) b other) (set_request_values s.now a table) (set_request_values t.now b other) result }
 {
     let lead = flag(a.has_credentials, b.has_credentials)
         & (flag(a.has_iid, b.has_iid) & ((a.fill == b.fill) & flag(a.mode, b.mode)));
@@ -148,7 +148,7 @@ pub(crate) fn set_request(
 }
 
 pub(crate) fn get_request(s: &[u8], a: GetRequest, t: &[u8], b: GetRequest) -> bool
-    ensures { Compares (getRequestSound (length s.now) a) (getRequestSound (length t.now) b) (getRequestValues s.now a) (getRequestValues t.now b) result }
+    ensures { Compares (get_request_sound (length s.now) a) (get_request_sound (length t.now) b) (get_request_values s.now a) (get_request_values t.now b) result }
 {
     let lead = flag(a.has_credentials, b.has_credentials)
         & (flag(a.has_iid, b.has_iid) & (flag(a.has_ids, b.has_ids) & (a.fill == b.fill)));
@@ -178,7 +178,7 @@ pub(crate) fn get_response(
     b: GetResponse,
     other: [Row; 32],
 ) -> bool
-    ensures { Compares (getResponseSound (length s.now) a table) (getResponseSound (length t.now) b other) (getResponseValues s.now a table) (getResponseValues t.now b other) result }
+    ensures { Compares (get_response_sound (length s.now) a table) (get_response_sound (length t.now) b other) (get_response_values s.now a table) (get_response_values t.now b other) result }
 {
     let lead = flag(a.has_iid, b.has_iid)
         & (flag(a.has_attributes, b.has_attributes)

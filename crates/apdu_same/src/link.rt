@@ -1,7 +1,7 @@
 // BST and VST behind their choice.
 ghost use Rattle.std.specs.Prelude.{length};
-ghost use Rattle.apdu.specs.Values.{bstValues, vstValues};
-ghost use Rattle.apdu.specs.Sound.{bstSound, vstSound};
+ghost use Rattle.apdu.specs.Values.{bst_values, vst_values};
+ghost use Rattle.apdu.specs.Sound.{bst_sound, vst_sound};
 ghost use Rattle.apdu_same.specs.Walk.{Compares};
 
 use crate::entries::{applications_if, rows_of};
@@ -18,7 +18,7 @@ pub(crate) fn bst(
     other: [Entry; 32],
     others: [Row; 32],
 ) -> bool
-    ensures { Compares (bstSound (length s.now) a list table) (bstSound (length t.now) b other others) (bstValues s.now a list table) (bstValues t.now b other others) result }
+    ensures { Compares (bst_sound (length s.now) a list table) (bst_sound (length t.now) b other others) (bst_values s.now a list table) (bst_values t.now b other others) result }
 {
     let lead = flag(a.has_others, b.has_others)
         & ((a.manufacturer == b.manufacturer) & (a.individual == b.individual));
@@ -79,7 +79,7 @@ pub(crate) fn vst(
     other: [Entry; 32],
     others: [Row; 32],
 ) -> bool
-    ensures { Compares (vstSound (length s.now) a list table) (vstSound (length t.now) b other others) (vstValues s.now a list table) (vstValues t.now b other others) result }
+    ensures { Compares (vst_sound (length s.now) a list table) (vst_sound (length t.now) b other others) (vst_values s.now a list table) (vst_values t.now b other others) result }
 {
     let fill = a.fill == b.fill;
     let profile = fill & (a.profile == b.profile);

@@ -1,6 +1,6 @@
 // Containers and attribute rows of two records.
 ghost use Rattle.std.specs.Prelude.{◌≡◌, ◌-◌, take, drop};
-ghost use Rattle.apdu_same.specs.Walk.{sameIf, sameHead, sameRow, same_rows, sameBox, same_list};
+ghost use Rattle.apdu_same.specs.Walk.{same_if, same_head, same_row, same_rows, same_box, same_list};
 
 use apdu::{Row, clamped};
 
@@ -15,7 +15,7 @@ pub(crate) fn head(
     m: u64,
     at: usize,
 ) -> bool
-    ensures { result ≡ sameHead s.now k n start t.now l m at }
+    ensures { result ≡ same_head s.now k n start t.now l m at }
 {
     if k != l {
         return false;
@@ -31,7 +31,7 @@ pub(crate) fn head(
 
 // Two rows.
 fn row(s: &[u8], v: Row, t: &[u8], w: Row) -> bool
-    ensures { result ≡ sameRow s.now v t.now w }
+    ensures { result ≡ same_row s.now v t.now w }
 {
     if v.id != w.id {
         return false;
@@ -94,7 +94,7 @@ pub(crate) fn boxed_if(
     other: [Row; 32],
     size: usize,
 ) -> bool
-    ensures { result ≡ sameIf before p (sameBox s.now k n start (take count table) t.now l m at (take size other)) }
+    ensures { result ≡ same_if before p (same_box s.now k n start (take count table) t.now l m at (take size other)) }
 {
     if before & p {
         if !head(s, k, n, start, t, l, m, at) {
@@ -121,7 +121,7 @@ pub(crate) fn attributes_if(
     other: [Row; 32],
     size: usize,
 ) -> bool
-    ensures { result ≡ sameIf before p (same_list s.now n (take count table) t.now m (take size other)) }
+    ensures { result ≡ same_if before p (same_list s.now n (take count table) t.now m (take size other)) }
 {
     if before & p {
         if n != m {

@@ -13,9 +13,9 @@ unfoldable pub next : ℕ → ℕ
 next at = pick (ltb at farthest) (at + 1) at
 
 -- the place behind a text
-unfoldable pub placeAfter : ℕ → List ℕ → ℕ
-placeAfter at [] = at
-placeAfter at (c ∷ text) = placeAfter (next at) text
+unfoldable pub place_after : ℕ → List ℕ → ℕ
+place_after at [] = at
+place_after at (c ∷ text) = place_after (next at) text
 
 -- the output with as much of a text from a place on as it has room for
 unfoldable pub inked : List ℕ → ℕ → List ℕ → List ℕ
@@ -24,7 +24,7 @@ inked out at (c ∷ text) = inked (set out at c) (next at) text
 
 -- from place at to place r the text was written, and out became after
 pub record Inks (text : List ℕ) (at r : ℕ) (out after : List ℕ) : Type 0 where
-  pub place : r ≡ placeAfter at text
+  pub place : r ≡ place_after at text
   pub octets : after ≡ inked out at text
 
 -- an array of so many open lists, the innermost last, as a stack

@@ -1,12 +1,12 @@
 // Text appended to a lent buffer from a place on: every other octet of the buffer stays, and where the text has no room, nothing is written (22).
 // A text is measured first, by the code that writes it.
 ghost use Rattle.std.specs.Prelude.{◌≡◌};
-ghost use Rattle.bench_lines.specs.Line.{hexText};
-ghost use Rattle.bench_lines.specs.Text.{appendText, appendedAnswer, outputAfter};
+ghost use Rattle.bench_lines.specs.Line.{hex_text};
+ghost use Rattle.bench_lines.specs.Text.{append_text, appended_answer, output_after};
 ghost use Rattle.apdu_text.specs.Words.{heading};
 ghost use Rattle.apdu_text.specs.Parts.{decimal};
-ghost use Rattle.apdu_text.specs.MessageText.{messageText};
-ghost use Rattle.apdu_text.specs.Lines.{refusalText, totalsText};
+ghost use Rattle.apdu_text.specs.MessageText.{message_text};
+ghost use Rattle.apdu_text.specs.Lines.{refusal_text, totals_text};
 ghost use Rattle.apdu_text.specs.Ink.{Inks};
 
 use crate::fields::number;
@@ -17,7 +17,7 @@ use bench_lines::Appended;
 
 // Appends characters as they are.
 pub fn append_word(word: &[u8], out: &mut [u8], at: usize) -> Appended
-    ensures { (appendedAnswer result ≡ appendText out.old at word.now) × (out.new ≡ outputAfter (appendedAnswer result) out.old at word.now) }
+    ensures { (appended_answer result ≡ append_text out.old at word.now) × (out.new ≡ output_after (appended_answer result) out.old at word.now) }
 {
     let mut none: [u8; 1] = [0; 1];
     if out.len() < put_word(&mut none, word, at) {
@@ -28,7 +28,7 @@ pub fn append_word(word: &[u8], out: &mut [u8], at: usize) -> Appended
 
 // Appends a number in decimal.
 pub fn append_decimal(n: u64, out: &mut [u8], at: usize) -> Appended
-    ensures { (appendedAnswer result ≡ appendText out.old at (decimal n)) × (out.new ≡ outputAfter (appendedAnswer result) out.old at (decimal n)) }
+    ensures { (appended_answer result ≡ append_text out.old at (decimal n)) × (out.new ≡ output_after (appended_answer result) out.old at (decimal n)) }
 {
     let mut none: [u8; 1] = [0; 1];
     if out.len() < put_decimal(&mut none, n, at) {
@@ -39,7 +39,7 @@ pub fn append_decimal(n: u64, out: &mut [u8], at: usize) -> Appended
 
 // Appends octets in upper-case hex.
 pub fn append_hex(octets: &[u8], out: &mut [u8], at: usize) -> Appended
-    ensures { (appendedAnswer result ≡ appendText out.old at (hexText octets.now)) × (out.new ≡ outputAfter (appendedAnswer result) out.old at (hexText octets.now)) }
+    ensures { (appended_answer result ≡ append_text out.old at (hex_text octets.now)) × (out.new ≡ output_after (appended_answer result) out.old at (hex_text octets.now)) }
 {
     let mut none: [u8; 1] = [0; 1];
     if out.len() < put_hex(&mut none, octets, at) {
@@ -57,7 +57,7 @@ pub fn append_message(
     out: &mut [u8],
     at: usize,
 ) -> Appended
-    ensures { (appendedAnswer result ≡ appendText out.old at (messageText lent.now message entries rows)) × (out.new ≡ outputAfter (appendedAnswer result) out.old at (messageText lent.now message entries rows)) }
+    ensures { (appended_answer result ≡ append_text out.old at (message_text lent.now message entries rows)) × (out.new ≡ output_after (appended_answer result) out.old at (message_text lent.now message entries rows)) }
 {
     let mut none: [u8; 1] = [0; 1];
     if out.len() < put_message(&mut none, lent, message, entries, rows, at) {
@@ -68,7 +68,7 @@ pub fn append_message(
 
 // `refused-N at P`, or `refused-0`.
 fn put_refusal(out: &mut [u8], refusal: u8, position: usize, at: usize) -> usize
-    ensures { Inks (refusalText refusal position) at result out.old out.new }
+    ensures { Inks (refusal_text refusal position) at result out.old out.new }
 {
     let behind = number(out, b"refused-", refusal as u64, at);
     if refusal == 0 {
@@ -79,7 +79,7 @@ fn put_refusal(out: &mut [u8], refusal: u8, position: usize, at: usize) -> usize
 
 // Appends a refusal with its position; refusal 0 has none.
 pub fn append_refusal(refusal: u8, position: usize, out: &mut [u8], at: usize) -> Appended
-    ensures { (appendedAnswer result ≡ appendText out.old at (refusalText refusal position)) × (out.new ≡ outputAfter (appendedAnswer result) out.old at (refusalText refusal position)) }
+    ensures { (appended_answer result ≡ append_text out.old at (refusal_text refusal position)) × (out.new ≡ output_after (appended_answer result) out.old at (refusal_text refusal position)) }
 {
     let mut none: [u8; 1] = [0; 1];
     if out.len() < put_refusal(&mut none, refusal, position, at) {
@@ -90,13 +90,13 @@ pub fn append_refusal(refusal: u8, position: usize, out: &mut [u8], at: usize) -
 
 // Appends the heading, `line answer`.
 pub fn append_heading(out: &mut [u8], at: usize) -> Appended
-    ensures { (appendedAnswer result ≡ appendText out.old at heading) × (out.new ≡ outputAfter (appendedAnswer result) out.old at heading) }
+    ensures { (appended_answer result ≡ append_text out.old at heading) × (out.new ≡ output_after (appended_answer result) out.old at heading) }
 {
     append_word(b"line answer\n", out, at)
 }
 
 fn put_totals(out: &mut [u8], messages: u64, refused: u64, same: u64, at: usize) -> usize
-    ensures { Inks (totalsText messages refused same) at result out.old out.new }
+    ensures { Inks (totals_text messages refused same) at result out.old out.new }
 {
     let b = number(out, b"messages ", messages, at);
     let c = number(out, b" refused ", refused, b);
@@ -106,7 +106,7 @@ fn put_totals(out: &mut [u8], messages: u64, refused: u64, same: u64, at: usize)
 
 // Appends the totals.
 pub fn append_totals(messages: u64, refused: u64, same: u64, out: &mut [u8], at: usize) -> Appended
-    ensures { (appendedAnswer result ≡ appendText out.old at (totalsText messages refused same)) × (out.new ≡ outputAfter (appendedAnswer result) out.old at (totalsText messages refused same)) }
+    ensures { (appended_answer result ≡ append_text out.old at (totals_text messages refused same)) × (out.new ≡ output_after (appended_answer result) out.old at (totals_text messages refused same)) }
 {
     let mut none: [u8; 1] = [0; 1];
     if out.len() < put_totals(&mut none, messages, refused, same, at) {

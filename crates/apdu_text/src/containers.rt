@@ -1,8 +1,8 @@
 // Containers up to their rows, and what stands behind a row.
 ghost use Rattle.std.specs.Prelude.{◌≡◌, ◌-◌, ◌≤◌, length, ◌++◌};
 ghost use Rattle.apdu.specs.Sound.{nested};
-ghost use Rattle.apdu_text.specs.Parts.{listFront, containerFront, rowFront, seam, goingOn};
-ghost use Rattle.apdu_text.specs.Words.{attributesOf};
+ghost use Rattle.apdu_text.specs.Parts.{list_front, container_front, row_front, seam, going_on};
+ghost use Rattle.apdu_text.specs.Words.{attributes_of};
 ghost use Rattle.apdu_text.specs.Ink.{Inks, stack_of};
 
 use crate::fields::{list, number, string};
@@ -21,7 +21,7 @@ pub(crate) fn announces(kind: u64, n: u64) -> u64
 
 // `[`, and `]` at once for a list of no rows.
 pub(crate) fn list_front(out: &mut [u8], n: u64, at: usize) -> usize
-    ensures { Inks (listFront n) at result out.old out.new }
+    ensures { Inks (list_front n) at result out.old out.new }
 {
     if n == 0 {
         return put_word(out, b"[]", at);
@@ -30,7 +30,7 @@ pub(crate) fn list_front(out: &mut [u8], n: u64, at: usize) -> usize
 }
 
 fn attribute_list(out: &mut [u8], n: u64, at: usize) -> usize
-    ensures { Inks (attributesOf ++ listFront n) at result out.old out.new }
+    ensures { Inks (attributes_of ++ list_front n) at result out.old out.new }
 {
     let front = put_word(out, b"attributes:", at);
     list_front(out, n, front)
@@ -45,7 +45,7 @@ pub(crate) fn container_front(
     start: usize,
     at: usize,
 ) -> usize
-    ensures { Inks (containerFront s.now kind n start) at result out.old out.new }
+    ensures { Inks (container_front s.now kind n start) at result out.old out.new }
 {
     if kind == apdu::OCTET_STRING {
         return string(out, b"octets:", s, start, n, at);
@@ -64,7 +64,7 @@ pub(crate) fn container_front(
 
 // A row up to its own rows.
 pub(crate) fn row_front(out: &mut [u8], s: &[u8], row: Row, at: usize) -> usize
-    ensures { Inks (rowFront s.now row) at result out.old out.new }
+    ensures { Inks (row_front s.now row) at result out.old out.new }
 {
     let sign = put_decimal(out, row.id as u64, at);
     let value = put(out, b'=', sign);
@@ -98,7 +98,7 @@ pub(crate) fn put_seam(out: &mut [u8], due: &[u64], depth: usize, at: usize) -> 
 // How many lists go on.
 pub(crate) fn going_on(due: &[u64], depth: usize) -> usize
     requires { depth ≤ length due.now }
-    ensures { (stack_of due.now result ≡ goingOn (stack_of due.now depth)) × (result ≤ depth) }
+    ensures { (stack_of due.now result ≡ going_on (stack_of due.now depth)) × (result ≤ depth) }
 {
     let mut k = depth;
     while 0 < k {

@@ -1,7 +1,7 @@
 // Application entries with their attribute rows.
 ghost use Rattle.std.specs.Prelude.{◌≡◌, ◌++◌, ◌+◌, ◌≤◌, take, drop};
 ghost use Rattle.apdu.specs.Values.{entry_rows, rows_of};
-ghost use Rattle.apdu_text.specs.Parts.{entryText, entryList};
+ghost use Rattle.apdu_text.specs.Parts.{entry_text, entry_list};
 ghost use Rattle.apdu_text.specs.Ink.{Inks};
 
 use crate::fields::number_if;
@@ -11,7 +11,7 @@ use apdu::{Entry, Row, clamped, entry_rows};
 
 // One entry; its rows start at `first`.
 fn entry(out: &mut [u8], s: &[u8], e: Entry, table: [Row; 32], first: usize, at: usize) -> usize
-    ensures { Inks (entryText s.now e (take (entry_rows e) (drop first table))) at result out.old out.new }
+    ensures { Inks (entry_text s.now e (take (entry_rows e) (drop first table))) at result out.old out.new }
 {
     let eid = put_decimal(out, e.aid as u64, at);
     let value = number_if(e.has_eid, out, b"/", e.eid as u64, eid);
@@ -50,7 +50,7 @@ pub(crate) fn entries(
     at: usize,
 ) -> EntriesShown
     requires { first ≤ 8160 }
-    ensures { Inks (name.now ++ entryList s.now (take n (drop from list)) (drop first table)) at result.at out.old out.new × (result.used ≡ first + rows_of (take n (drop from list))) × (result.used ≤ first + 8160) }
+    ensures { Inks (name.now ++ entry_list s.now (take n (drop from list)) (drop first table)) at result.at out.old out.new × (result.used ≡ first + rows_of (take n (drop from list))) × (result.used ≤ first + 8160) }
 {
     let most = clamped(from, n as usize);
     let front = put_word(out, name, at);

@@ -1,8 +1,8 @@
 // Fields that are numbers, strings or lists of numbers.
 ghost use Rattle.std.specs.Prelude.{◌≡◌, ◌++◌, ◌+◌, ◌*◌, ◌<◌};
 ghost use Rattle.bits.specs.Bits.{field};
-ghost use Rattle.bench_lines.specs.Line.{hexText};
-ghost use Rattle.apdu_text.specs.Parts.{decimal, shown, part_at, when, numberList};
+ghost use Rattle.bench_lines.specs.Line.{hex_text};
+ghost use Rattle.apdu_text.specs.Parts.{decimal, shown, part_at, when, number_list};
 ghost use Rattle.apdu_text.specs.Ink.{Inks};
 
 use crate::pen::{put, put_decimal, put_octet, put_word};
@@ -33,7 +33,7 @@ fn octet(s: &[u8], start: usize, k: usize) -> u8
 
 // The octets of a part in hex.
 pub(crate) fn put_part(out: &mut [u8], s: &[u8], start: usize, n: u64, at: usize) -> usize
-    ensures { Inks (hexText (part_at s.now start n)) at result out.old out.new }
+    ensures { Inks (hex_text (part_at s.now start n)) at result out.old out.new }
 {
     let most = shown(s.len(), start, n);
     let mut p = at;
@@ -47,7 +47,7 @@ pub(crate) fn put_part(out: &mut [u8], s: &[u8], start: usize, n: u64, at: usize
 
 // The numbers of a part in brackets.
 pub(crate) fn put_list(out: &mut [u8], s: &[u8], start: usize, n: u64, at: usize) -> usize
-    ensures { Inks (numberList (part_at s.now start n)) at result out.old out.new }
+    ensures { Inks (number_list (part_at s.now start n)) at result out.old out.new }
 {
     let most = shown(s.len(), start, n);
     let mut p = put(out, b'[', at);
@@ -86,7 +86,7 @@ pub(crate) fn string(
     n: u64,
     at: usize,
 ) -> usize
-    ensures { Inks (name.now ++ hexText (part_at s.now start n)) at result out.old out.new }
+    ensures { Inks (name.now ++ hex_text (part_at s.now start n)) at result out.old out.new }
 {
     let value = put_word(out, name, at);
     put_part(out, s, start, n, value)
@@ -101,7 +101,7 @@ pub(crate) fn string_if(
     n: u64,
     at: usize,
 ) -> usize
-    ensures { Inks (when p (name.now ++ hexText (part_at s.now start n))) at result out.old out.new }
+    ensures { Inks (when p (name.now ++ hex_text (part_at s.now start n))) at result out.old out.new }
 {
     if p {
         return string(out, name, s, start, n, at);
@@ -110,7 +110,7 @@ pub(crate) fn string_if(
 }
 
 pub(crate) fn list(out: &mut [u8], name: &[u8], s: &[u8], start: usize, n: u64, at: usize) -> usize
-    ensures { Inks (name.now ++ numberList (part_at s.now start n)) at result out.old out.new }
+    ensures { Inks (name.now ++ number_list (part_at s.now start n)) at result out.old out.new }
 {
     let value = put_word(out, name, at);
     put_list(out, s, start, n, value)
@@ -125,7 +125,7 @@ pub(crate) fn list_if(
     n: u64,
     at: usize,
 ) -> usize
-    ensures { Inks (when p (name.now ++ numberList (part_at s.now start n))) at result out.old out.new }
+    ensures { Inks (when p (name.now ++ number_list (part_at s.now start n))) at result out.old out.new }
 {
     if p {
         return list(out, name, s, start, n, at);

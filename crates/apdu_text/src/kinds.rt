@@ -1,7 +1,7 @@
 // The fields of the service messages, one function for each record.
 ghost use Rattle.std.specs.Prelude.{◌≡◌};
 ghost use Rattle.apdu.specs.Values.{bit_of};
-ghost use Rattle.apdu_text.specs.MessageText.{requestText, actionResponseText, responseText, setRequestText, getRequestText, getResponseText};
+ghost use Rattle.apdu_text.specs.MessageText.{request_text, action_response_text, response_text, set_request_text, get_request_text, get_response_text};
 ghost use Rattle.apdu_text.specs.Ink.{Inks};
 
 use crate::fields::{list_if, number, number_if, string_if};
@@ -19,7 +19,7 @@ fn bit(b: bool) -> u64
 
 // Action or event request.
 pub(crate) fn request(out: &mut [u8], s: &[u8], m: Request, table: [Row; 32], at: usize) -> usize
-    ensures { Inks (requestText s.now m table) at result out.old out.new }
+    ensures { Inks (request_text s.now m table) at result out.old out.new }
 {
     let b = number(out, b" mode=", bit(m.mode), at);
     let c = number(out, b" eid=", m.eid, b);
@@ -56,7 +56,7 @@ pub(crate) fn action_response(
     table: [Row; 32],
     at: usize,
 ) -> usize
-    ensures { Inks (actionResponseText s.now m table) at result out.old out.new }
+    ensures { Inks (action_response_text s.now m table) at result out.old out.new }
 {
     let b = number(out, b" fill=", m.fill, at);
     let c = number(out, b" eid=", m.eid, b);
@@ -79,7 +79,7 @@ pub(crate) fn action_response(
 
 // Event or set response.
 pub(crate) fn response(out: &mut [u8], m: Response, at: usize) -> usize
-    ensures { Inks (responseText m) at result out.old out.new }
+    ensures { Inks (response_text m) at result out.old out.new }
 {
     let b = number(out, b" fill=", m.fill, at);
     let c = number(out, b" eid=", m.eid, b);
@@ -94,7 +94,7 @@ pub(crate) fn set_request(
     table: [Row; 32],
     at: usize,
 ) -> usize
-    ensures { Inks (setRequestText s.now m table) at result out.old out.new }
+    ensures { Inks (set_request_text s.now m table) at result out.old out.new }
 {
     let b = number(out, b" fill=", m.fill, at);
     let c = number(out, b" mode=", bit(m.mode), b);
@@ -113,7 +113,7 @@ pub(crate) fn set_request(
 }
 
 pub(crate) fn get_request(out: &mut [u8], s: &[u8], m: GetRequest, at: usize) -> usize
-    ensures { Inks (getRequestText s.now m) at result out.old out.new }
+    ensures { Inks (get_request_text s.now m) at result out.old out.new }
 {
     let b = number(out, b" fill=", m.fill, at);
     let c = number(out, b" eid=", m.eid, b);
@@ -137,7 +137,7 @@ pub(crate) fn get_response(
     table: [Row; 32],
     at: usize,
 ) -> usize
-    ensures { Inks (getResponseText s.now m table) at result out.old out.new }
+    ensures { Inks (get_response_text s.now m table) at result out.old out.new }
 {
     let b = number(out, b" fill=", m.fill, at);
     let c = number(out, b" eid=", m.eid, b);

@@ -1,8 +1,8 @@
 // The fields of the messages that open the link.
 ghost use Rattle.std.specs.Prelude.{◌++◌, ◌≤◌, take, drop};
-ghost use Rattle.apdu_text.specs.Words.{optionalIs};
-ghost use Rattle.apdu_text.specs.Parts.{when, entryList};
-ghost use Rattle.apdu_text.specs.MessageText.{bstText, vstText};
+ghost use Rattle.apdu_text.specs.Words.{optional_is};
+ghost use Rattle.apdu_text.specs.Parts.{when, entry_list};
+ghost use Rattle.apdu_text.specs.MessageText.{bst_text, vst_text};
 ghost use Rattle.apdu_text.specs.Ink.{Inks};
 
 use crate::entries::entries;
@@ -22,7 +22,7 @@ fn others(
     at: usize,
 ) -> usize
     requires { first ≤ 8160 }
-    ensures { Inks (when is (optionalIs ++ entryList s.now (take n (drop from all)) (drop first table))) at result out.old out.new }
+    ensures { Inks (when is (optional_is ++ entry_list s.now (take n (drop from all)) (drop first table))) at result out.old out.new }
 {
     if is {
         let t = entries(out, b" optional=", s, all, from, n, table, first, at);
@@ -39,7 +39,7 @@ pub(crate) fn bst(
     table: [Row; 32],
     at: usize,
 ) -> usize
-    ensures { Inks (bstText s.now m all table) at result out.old out.new }
+    ensures { Inks (bst_text s.now m all table) at result out.old out.new }
 {
     let b = number(out, b" manufacturer=", m.manufacturer, at);
     let c = number(out, b" individual=", m.individual, b);
@@ -69,7 +69,7 @@ pub(crate) fn vst(
     table: [Row; 32],
     at: usize,
 ) -> usize
-    ensures { Inks (vstText s.now m all table) at result out.old out.new }
+    ensures { Inks (vst_text s.now m all table) at result out.old out.new }
 {
     let b = number(out, b" fill=", m.fill, at);
     let c = number(out, b" profile=", m.profile, b);

@@ -1,5 +1,5 @@
 // A message of any kind.
-ghost use Rattle.apdu_text.specs.MessageText.{messageText};
+ghost use Rattle.apdu_text.specs.MessageText.{message_text};
 ghost use Rattle.apdu_text.specs.Ink.{Inks};
 
 use crate::kinds::{action_response, get_request, get_response, request, response, set_request};
@@ -16,7 +16,7 @@ pub(crate) fn put_message(
     table: [Row; 32],
     at: usize,
 ) -> usize
-    ensures { Inks (messageText s.now m all table) at result out.old out.new }
+    ensures { Inks (message_text s.now m all table) at result out.old out.new }
 {
     match m {
         Message::ActionRequest(x) => {

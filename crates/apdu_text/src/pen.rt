@@ -1,7 +1,7 @@
 // The pen: a place in the output, by value. A character is set where the output has room, and the place goes on: so one code measures and writes.
 ghost use Rattle.std.specs.Prelude.{◌≡◌, ◌+◌, ◌/◌, ◌%◌, ◌<◌, [], ◌∷◌};
-ghost use Rattle.bench_lines.specs.Numerals.{digitFor};
-ghost use Rattle.bench_lines.specs.Line.{hexText};
+ghost use Rattle.bench_lines.specs.Numerals.{digit_for};
+ghost use Rattle.bench_lines.specs.Line.{hex_text};
 ghost use Rattle.apdu_text.specs.Parts.{decimal};
 ghost use Rattle.apdu_text.specs.Ink.{next, Inks};
 
@@ -56,7 +56,7 @@ pub(crate) fn put_decimal(out: &mut [u8], n: u64, at: usize) -> usize
 // The character of a hex digit.
 fn digit(d: u8) -> u8
     requires { d < 16 }
-    ensures { result ≡ digitFor d }
+    ensures { result ≡ digit_for d }
 {
     if d < 10 {
         return 48 + d;
@@ -66,7 +66,7 @@ fn digit(d: u8) -> u8
 
 // An octet in hex.
 pub(crate) fn put_octet(out: &mut [u8], o: u8, at: usize) -> usize
-    ensures { Inks (digitFor (o / 16) ∷ (digitFor (o % 16) ∷ [])) at result out.old out.new }
+    ensures { Inks (digit_for (o / 16) ∷ (digit_for (o % 16) ∷ [])) at result out.old out.new }
 {
     let low = put(out, digit(o / 16), at);
     put(out, digit(o % 16), low)
@@ -74,7 +74,7 @@ pub(crate) fn put_octet(out: &mut [u8], o: u8, at: usize) -> usize
 
 // Octets in hex.
 pub(crate) fn put_hex(out: &mut [u8], octets: &[u8], at: usize) -> usize
-    ensures { Inks (hexText octets.now) at result out.old out.new }
+    ensures { Inks (hex_text octets.now) at result out.old out.new }
 {
     let mut p = at;
     let mut k: usize = 0;

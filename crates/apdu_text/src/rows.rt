@@ -1,7 +1,7 @@
 // Attribute rows: they lie flat, those of a list behind it.
 ghost use Rattle.std.specs.Prelude.{◌≡◌, [], ◌++◌, ◌-◌, take, drop};
-ghost use Rattle.apdu_text.specs.Parts.{when, opened, rowsText, containerText, attributeRows};
-ghost use Rattle.apdu_text.specs.Words.{attributesIs};
+ghost use Rattle.apdu_text.specs.Parts.{when, opened, rows_text, container_text, attribute_rows};
+ghost use Rattle.apdu_text.specs.Words.{attributes_is};
 ghost use Rattle.apdu_text.specs.Ink.{Inks};
 
 use crate::containers::{announces, container_front, going_on, list_front, put_seam, row_front};
@@ -27,7 +27,7 @@ pub(crate) fn rows(
     n: u64,
     at: usize,
 ) -> usize
-    ensures { Inks (rowsText s.now (opened n []) (take count (drop first table))) at result out.old out.new }
+    ensures { Inks (rows_text s.now (opened n []) (take count (drop first table))) at result out.old out.new }
 {
     if n == 0 {
         return at;
@@ -70,7 +70,7 @@ pub(crate) fn container(
     start: usize,
     at: usize,
 ) -> usize
-    ensures { Inks (containerText s.now kind n start (take count (drop first table))) at result out.old out.new }
+    ensures { Inks (container_text s.now kind n start (take count (drop first table))) at result out.old out.new }
 {
     let behind = container_front(out, s, kind, n, start, at);
     rows(out, s, table, first, count, announces(kind, n), behind)
@@ -90,7 +90,7 @@ pub(crate) fn container_if(
     start: usize,
     at: usize,
 ) -> usize
-    ensures { Inks (when is (name.now ++ containerText s.now kind n start (take count (drop first table)))) at result out.old out.new }
+    ensures { Inks (when is (name.now ++ container_text s.now kind n start (take count (drop first table)))) at result out.old out.new }
 {
     if is {
         let value = put_word(out, name, at);
@@ -109,7 +109,7 @@ pub(crate) fn attributes_if(
     n: u64,
     at: usize,
 ) -> usize
-    ensures { Inks (when is (attributesIs ++ attributeRows s.now n (take count table))) at result out.old out.new }
+    ensures { Inks (when is (attributes_is ++ attribute_rows s.now n (take count table))) at result out.old out.new }
 {
     if is {
         let front = put_word(out, b" attributes=", at);

@@ -13,14 +13,14 @@ use types.Run.{OneOf, miss}
 use borrow.Author.Tests.{ltb-true}
 use Rattle.refusals.specs.Check.{first_of}
 use Rattle.refusals.proofs.Tests.{and_right}
-use Rattle.bits.specs.Bits.{writeField}
-use Rattle.bits.specs.Strings.{isInside}
-use Rattle.apdu_format.specs.Limits.{mostRows}
-use Rattle.apdu_format.specs.Component.{choice, integer, fixed, class, entryCount, idCount}
+use Rattle.bits.specs.Bits.{write_field}
+use Rattle.bits.specs.Strings.{is_inside}
+use Rattle.apdu_format.specs.Limits.{most_rows}
+use Rattle.apdu_format.specs.Component.{choice, integer, fixed, class, entry_count, id_count}
 use Rattle.apdu_format.specs.Table.{layout_of}
-use Rattle.apdu_format.specs.Rules.{shape, checksOf, brings, announced, present, when, is_set}
-use Rattle.apdu_format.specs.Reading.{fields, numbersOf, sum}
-use Rattle.apdu_format.specs.Writing.{fits, is_value, fieldsFit}
+use Rattle.apdu_format.specs.Rules.{shape, checks_of, brings, announced, present, when, is_set}
+use Rattle.apdu_format.specs.Reading.{fields, numbers_of, sum}
+use Rattle.apdu_format.specs.Writing.{fits, is_value, fields_fit}
 use Rattle.apdu_format.proofs.Tests.{both}
 use Rattle.apdu.specs.declared.lists.Row.{Row}
 use Rattle.apdu.specs.declared.lists.Entry.{Entry}
@@ -29,187 +29,187 @@ use Rattle.apdu.specs.declared.records.Vst.{Vst}
 use Rattle.apdu.specs.declared.records.Message.{Message}
 use Rattle.apdu.specs.declared.records.Message.TheVariants as kind
 use Rattle.apdu.specs.contracts.records.Message as message
-use Rattle.apdu.specs.Values.{bit_of, num, if, idList, rows_of, bstValues, vstValues}
-use Rattle.apdu.proofs.Laws.{and-unit, own-sound}
-use Rattle.apdu.specs.Sound.{soundIf, entriesSound, bstSound, vstSound, rowsPresent, rowsFit}
+use Rattle.apdu.specs.Values.{bit_of, num, if, id_list, rows_of, bst_values, vst_values}
+use Rattle.apdu.proofs.Laws.{and_unit, own_sound}
+use Rattle.apdu.specs.Sound.{sound_if, entries_sound, bst_sound, vst_sound, rows_present, rows_fit}
 use Rattle.apdu_writing.specs.declared.quill.Quill.{Quill}
 use Rattle.apdu_writing.specs.declared.link.LinkFront.{LinkFront}
 use Rattle.apdu_writing.specs.Quill.{Put, Moves, Puts, Small}
-use Rattle.apdu_writing.specs.Applications.{listRows, Lists}
-use Rattle.apdu_writing.specs.Link.{bstFront, vstFront, configured, FrontPut, ByKind, LinkFrontPut, LinkTailPut, LinkPut}
+use Rattle.apdu_writing.specs.Applications.{list_rows, Lists}
+use Rattle.apdu_writing.specs.Link.{bst_front, vst_front, configured, FrontPut, ByKind, LinkFrontPut, LinkTailPut, LinkPut}
 use Rattle.apdu_writing.proofs.Chains.{nothing, then, before, and_then}
-use Rattle.apdu_writing.proofs.Leaves.{packed, leaf, in-number}
-use Rattle.apdu_writing.proofs.Leads.{lead-by, is-set, bit-fits}
+use Rattle.apdu_writing.proofs.Leaves.{packed, leaf, in_number}
+use Rattle.apdu_writing.proofs.Leads.{lead_by, is_set_law, bit_fits}
 
 -- ---- numbers of whole octets
 
-word-range : (n room : ℕ) → ltb n 65536 ≡ is_value (fixed 2) room (fields (n ∷ []))
-unfolding is_value fits shape fieldsFit checksOf first_of numbersOf
-word-range n room = sym (and-unit (ltb n 65536 && true) ∙ and-unit (ltb n 65536))
+word_range : (n room : ℕ) → ltb n 65536 ≡ is_value (fixed 2) room (fields (n ∷ []))
+unfolding is_value fits shape fields_fit checks_of first_of numbers_of
+word_range n room = sym (and_unit (ltb n 65536 && true) ∙ and_unit (ltb n 65536))
 
-pub word-by : (n : ℕ) {c r : Quill} {o o' : List ℕ} → Put 2 (ltb n 65536) c r (writeField o (8 * c.at) 16 n) o o' → Puts true (fixed 2 ∷ []) c r o o' (fields (n ∷ []) ∷ [])
-unfolding brings announced numbersOf sum
-word-by n {c} {r} {o} p =
+pub word_by : (n : ℕ) {c r : Quill} {o o' : List ℕ} → Put 2 (ltb n 65536) c r (write_field o (8 * c.at) 16 n) o o' → Puts true (fixed 2 ∷ []) c r o o' (fields (n ∷ []) ∷ [])
+unfolding brings announced numbers_of sum
+word_by n {c} {r} {o} p =
     leaf (fixed 2) (fields (n ∷ [])) p
-    (in-number (fixed 2) (16 ∷ []) (n ∷ []) n (ltb n 65536) c.room o (8 * c.at) (unfold shape in refl) (omega arith) (word-range n c.room) (λ g. unfold packed in omega arith)) refl
+    (in_number (fixed 2) (16 ∷ []) (n ∷ []) n (ltb n 65536) c.room o (8 * c.at) (unfold shape in refl) (omega arith) (word_range n c.room) (λ g. unfold packed in omega arith)) refl
 
-time-range : (n room : ℕ) → ltb n 4294967296 ≡ is_value (fixed 4) room (fields (n ∷ []))
-unfolding is_value fits shape fieldsFit checksOf first_of numbersOf
-time-range n room = sym (and-unit (ltb n 4294967296 && true) ∙ and-unit (ltb n 4294967296))
+time_range : (n room : ℕ) → ltb n 4294967296 ≡ is_value (fixed 4) room (fields (n ∷ []))
+unfolding is_value fits shape fields_fit checks_of first_of numbers_of
+time_range n room = sym (and_unit (ltb n 4294967296 && true) ∙ and_unit (ltb n 4294967296))
 
-pub time-by : (n : ℕ) {c r : Quill} {o o' : List ℕ} → Put 4 (ltb n 4294967296) c r (writeField o (8 * c.at) 32 n) o o' → Puts true (fixed 4 ∷ []) c r o o' (fields (n ∷ []) ∷ [])
-unfolding brings announced numbersOf sum
-time-by n {c} {r} {o} p =
+pub time_by : (n : ℕ) {c r : Quill} {o o' : List ℕ} → Put 4 (ltb n 4294967296) c r (write_field o (8 * c.at) 32 n) o o' → Puts true (fixed 4 ∷ []) c r o o' (fields (n ∷ []) ∷ [])
+unfolding brings announced numbers_of sum
+time_by n {c} {r} {o} p =
     leaf (fixed 4) (fields (n ∷ [])) p
-    (in-number (fixed 4) (32 ∷ []) (n ∷ []) n (ltb n 4294967296) c.room o (8 * c.at) (unfold shape in refl) (omega arith) (time-range n c.room) (λ g. unfold packed in omega arith)) refl
+    (in_number (fixed 4) (32 ∷ []) (n ∷ []) n (ltb n 4294967296) c.room o (8 * c.at) (unfold shape in refl) (omega arith) (time_range n c.room) (λ g. unfold packed in omega arith)) refl
 
 -- ---- a configuration
 
 module _ (p : Bool) (n : ℕ) where
-  class-range : (room : ℕ) → ltb n 32768 ≡ is_value class room (fields (bit_of p ∷ n ∷ []))
-  unfolding is_value fits shape fieldsFit checksOf first_of numbersOf
-  class-range room = rw (bit-fits p) (sym (and-unit (ltb n 32768 && true) ∙ and-unit (ltb n 32768)))
+  class_range : (room : ℕ) → ltb n 32768 ≡ is_value class room (fields (bit_of p ∷ n ∷ []))
+  unfolding is_value fits shape fields_fit checks_of first_of numbers_of
+  class_range room = rw (bit_fits p) (sym (and_unit (ltb n 32768 && true) ∙ and_unit (ltb n 32768)))
 
-  class-packed : {x z : ℕ} → x ≡ bit_of p → Small n 32768 z → ltb n 32768 ≡ true → 32768 * x + z ≡ packed (1 ∷ 15 ∷ []) (bit_of p ∷ n ∷ [])
+  class_packed : {x z : ℕ} → x ≡ bit_of p → Small n 32768 z → ltb n 32768 ≡ true → 32768 * x + z ≡ packed (1 ∷ 15 ∷ []) (bit_of p ∷ n ∷ [])
   unfolding packed sum
-  class-packed q f g = let h = f.is (ltb-true n 32768 g) in omega arith
+  class_packed q f g = let h = f.is (ltb-true n 32768 g) in omega arith
 
-  class-lead : {x z : ℕ} {c r : Quill} {o o' : List ℕ} → x ≡ bit_of p → Small n 32768 z → Put 2 (ltb n 32768) c r (writeField o (8 * c.at) 16 (32768 * x + z)) o o'
+  class_lead : {x z : ℕ} {c r : Quill} {o o' : List ℕ} → x ≡ bit_of p → Small n 32768 z → Put 2 (ltb n 32768) c r (write_field o (8 * c.at) 16 (32768 * x + z)) o o'
       → Moves true (class ∷ []) ((fixed 2 ∷ []) ++ when p (fixed 2 ∷ [])) c r o o' (fields (bit_of p ∷ n ∷ []) ∷ [])
-  unfolding brings announced numbersOf sum
-  class-lead {x} {z} {c} {r} {o} q f m =
+  unfolding brings announced numbers_of sum
+  class_lead {x} {z} {c} {r} {o} q f m =
       rw (← brought)
       (leaf class (fields (bit_of p ∷ n ∷ [])) m
-      (in-number class (1 ∷ 15 ∷ []) (bit_of p ∷ n ∷ []) (32768 * x + z) (ltb n 32768) c.room o (8 * c.at) (unfold shape in refl) (omega arith) (class-range c.room) (class-packed q f)) refl)
+      (in_number class (1 ∷ 15 ∷ []) (bit_of p ∷ n ∷ []) (32768 * x + z) (ltb n 32768) c.room o (8 * c.at) (unfold shape in refl) (omega arith) (class_range c.room) (class_packed q f)) refl)
     where
       brought : (fixed 2 ∷ []) ++ when (is_set (bit_of p ∷ n ∷ []) 0) (fixed 2 ∷ []) ≡ (fixed 2 ∷ []) ++ when p (fixed 2 ∷ [])
-      brought = rw (is-set p)
+      brought = rw (is_set_law p)
 
-  pub configuration-by : (maker status : ℕ) {x z : ℕ} {c d e r : Quill} {o o₁ o₂ o₃ : List ℕ} → x ≡ bit_of p → Small n 32768 z
-      → Put 2 (ltb n 32768) c d (writeField o (8 * c.at) 16 (32768 * x + z)) o o₁ → Puts true (fixed 2 ∷ []) d e o₁ o₂ (fields (maker ∷ []) ∷ [])
+  pub configuration_by : (maker status : ℕ) {x z : ℕ} {c d e r : Quill} {o o₁ o₂ o₃ : List ℕ} → x ≡ bit_of p → Small n 32768 z
+      → Put 2 (ltb n 32768) c d (write_field o (8 * c.at) 16 (32768 * x + z)) o o₁ → Puts true (fixed 2 ∷ []) d e o₁ o₂ (fields (maker ∷ []) ∷ [])
       → Puts true (when p (fixed 2 ∷ [])) e r o₂ o₃ (if p (fields (status ∷ []) ∷ []))
       → Puts true (class ∷ []) c r o o₃ (fields (bit_of p ∷ n ∷ []) ∷ fields (maker ∷ []) ∷ if p (fields (status ∷ []) ∷ []))
-  configuration-by maker status q f m a b = then (class-lead q f m) (and_then a b)
+  configuration_by maker status q f m a b = then (class_lead q f m) (and_then a b)
 
 -- ---- the part before the lists
 
 module _ (m : Vst) where
-  vst-lead : {z : ℕ} {c r : Quill} {o o' : List ℕ} → Small m.fill 16 z → Put 1 (ltb m.fill 16) c r (writeField o (8 * c.at) 8 (16 * 9 + z)) o o'
-      → Moves true (choice ∷ []) ((integer ∷ []) ++ ((entryCount ∷ []) ++ ((class ∷ []) ++ []))) c r o o' (fields (9 ∷ []) ∷ fields (m.fill ∷ []) ∷ [])
+  vst_lead : {z : ℕ} {c r : Quill} {o o' : List ℕ} → Small m.fill 16 z → Put 1 (ltb m.fill 16) c r (write_field o (8 * c.at) 8 (16 * 9 + z)) o o'
+      → Moves true (choice ∷ []) ((integer ∷ []) ++ ((entry_count ∷ []) ++ ((class ∷ []) ++ []))) c r o o' (fields (9 ∷ []) ∷ fields (m.fill ∷ []) ∷ [])
   unfolding sum present layout_of
-  vst-lead {z} f p = lead-by 9 (4 ∷ []) (m.fill ∷ []) (16 * 9 + z) (ltb m.fill 16) 1 (omega arith) refl refl (omega arith) fit value p
+  vst_lead {z} f p = lead_by 9 (4 ∷ []) (m.fill ∷ []) (16 * 9 + z) (ltb m.fill 16) 1 (omega arith) refl refl (omega arith) fit value p
     where
       value : ltb m.fill 16 ≡ true → 16 * 9 + z ≡ packed (4 ∷ 4 ∷ []) (9 ∷ m.fill ∷ [])
       value g = let h = f.is (ltb-true m.fill 16 g) in unfold packed sum in omega arith
 
-      fit : ltb m.fill 16 ≡ fieldsFit (4 ∷ []) (m.fill ∷ [])
-      fit = unfold fieldsFit in sym (and-unit (ltb m.fill 16))
+      fit : ltb m.fill 16 ≡ fields_fit (4 ∷ []) (m.fill ∷ [])
+      fit = unfold fields_fit in sym (and_unit (ltb m.fill 16))
 
-  pub vst-front : {z : ℕ} {c d e : Quill} {o o₁ o₂ : List ℕ} → Small m.fill 16 z → Put 1 (ltb m.fill 16) c d (writeField o (8 * c.at) 8 (16 * 9 + z)) o o₁ → Puts true (integer ∷ []) d e o₁ o₂ (num m.profile ∷ [])
-      → FrontPut m.applications false 0 (class ∷ []) c (record { quill = e; first = m.applications; second = 0; two = false }) o o₂ (vstFront m)
-  vst-front f p a = record { so = then (vst-lead f p) (before (entryCount ∷ class ∷ []) a); first = refl; two = refl; second = refl }
+  pub vst_front_law : {z : ℕ} {c d e : Quill} {o o₁ o₂ : List ℕ} → Small m.fill 16 z → Put 1 (ltb m.fill 16) c d (write_field o (8 * c.at) 8 (16 * 9 + z)) o o₁ → Puts true (integer ∷ []) d e o₁ o₂ (num m.profile ∷ [])
+      → FrontPut m.applications false 0 (class ∷ []) c (record { quill = e; first = m.applications; second = 0; two = false }) o o₂ (vst_front m)
+  vst_front_law f p a = record { so = then (vst_lead f p) (before (entry_count ∷ class ∷ []) a); first = refl; two = refl; second = refl }
 
 module _ (m : Bst) where
   abbrev fs : List ℕ
   fs = bit_of m.has_others ∷ m.manufacturer ∷ m.individual ∷ []
 
-  bst-fit : (ltb m.manufacturer 65536 && ltb m.individual 134217728) ≡ fieldsFit (1 ∷ 16 ∷ 27 ∷ []) fs
-  unfolding fieldsFit
-  bst-fit = rw (bit-fits m.has_others, and-unit (ltb m.individual 134217728))
+  bst_fit : (ltb m.manufacturer 65536 && ltb m.individual 134217728) ≡ fields_fit (1 ∷ 16 ∷ 27 ∷ []) fs
+  unfolding fields_fit
+  bst_fit = rw (bit_fits m.has_others, and_unit (ltb m.individual 134217728))
 
-  bst-packed : {x y z : ℕ} → x ≡ bit_of m.has_others → Small m.manufacturer 65536 y → Small m.individual 134217728 z
+  bst_packed : {x y z : ℕ} → x ≡ bit_of m.has_others → Small m.manufacturer 65536 y → Small m.individual 134217728 z
       → (ltb m.manufacturer 65536 && ltb m.individual 134217728) ≡ true → 17592186044416 * 8 + 8796093022208 * x + 134217728 * y + z ≡ packed (4 ∷ 1 ∷ 16 ∷ 27 ∷ []) (8 ∷ fs)
   unfolding packed sum
-  bst-packed p q f g =
+  bst_packed p q f g =
       let h = both (ltb m.manufacturer 65536) (ltb m.individual 134217728) g in
       let a = q.is (ltb-true m.manufacturer 65536 h.0) in
       let b = f.is (ltb-true m.individual 134217728 h.1) in
       omega arith
 
-  bst-present : present fs (layout_of 8).body
-      ≡ (fixed 4 ∷ []) ++ ((integer ∷ []) ++ ((entryCount ∷ []) ++ (when m.has_others (entryCount ∷ []) ++ ((idCount ∷ []) ++ []))))
+  bst_present : present fs (layout_of 8).body
+      ≡ (fixed 4 ∷ []) ++ ((integer ∷ []) ++ ((entry_count ∷ []) ++ (when m.has_others (entry_count ∷ []) ++ ((id_count ∷ []) ++ []))))
   unfolding present layout_of
-  bst-present = rw (is-set m.has_others)
+  bst_present = rw (is_set_law m.has_others)
 
   module _ {x y z : ℕ} {c d : Quill} {o o₁ : List ℕ} (p : x ≡ bit_of m.has_others) (q : Small m.manufacturer 65536 y) (g : Small m.individual 134217728 z)
-      (put : Put 6 (ltb m.manufacturer 65536 && ltb m.individual 134217728) c d (writeField o (8 * c.at) 48 (17592186044416 * 8 + 8796093022208 * x + 134217728 * y + z)) o o₁) where
-    bst-lead : Moves true (choice ∷ []) ((fixed 4 ∷ []) ++ ((integer ∷ []) ++ ((entryCount ∷ []) ++ (when m.has_others (entryCount ∷ []) ++ ((idCount ∷ []) ++ []))))) c d o o₁ (fields (8 ∷ []) ∷ fields fs ∷ [])
-    bst-lead =
-        rw (← bst-present)
-        (lead-by 8 (1 ∷ 16 ∷ 27 ∷ []) fs (17592186044416 * 8 + 8796093022208 * x + 134217728 * y + z) (ltb m.manufacturer 65536 && ltb m.individual 134217728) 6 (omega arith)
-        (unfold layout_of in refl) (unfold sum in refl) (omega arith) bst-fit (bst-packed p q g) put)
+      (put : Put 6 (ltb m.manufacturer 65536 && ltb m.individual 134217728) c d (write_field o (8 * c.at) 48 (17592186044416 * 8 + 8796093022208 * x + 134217728 * y + z)) o o₁) where
+    bst_lead : Moves true (choice ∷ []) ((fixed 4 ∷ []) ++ ((integer ∷ []) ++ ((entry_count ∷ []) ++ (when m.has_others (entry_count ∷ []) ++ ((id_count ∷ []) ++ []))))) c d o o₁ (fields (8 ∷ []) ∷ fields fs ∷ [])
+    bst_lead =
+        rw (← bst_present)
+        (lead_by 8 (1 ∷ 16 ∷ 27 ∷ []) fs (17592186044416 * 8 + 8796093022208 * x + 134217728 * y + z) (ltb m.manufacturer 65536 && ltb m.individual 134217728) 6 (omega arith)
+        (unfold layout_of in refl) (unfold sum in refl) (omega arith) bst_fit (bst_packed p q g) put)
 
-    pub bst-front : {e f : Quill} {o₂ o₃ : List ℕ} → Puts true (fixed 4 ∷ []) d e o₁ o₂ (fields (m.time ∷ []) ∷ []) → Puts true (integer ∷ []) e f o₂ o₃ (num m.profile ∷ [])
-        → FrontPut m.mandatory m.has_others m.others (idCount ∷ []) c (record { quill = f; first = m.mandatory; second = m.others; two = m.has_others }) o o₃ (bstFront m)
-    bst-front clock profile =
-        record { so = then bst-lead (before ((entryCount ∷ []) ++ (when m.has_others (entryCount ∷ []) ++ (idCount ∷ []))) (and_then clock profile)); first = refl; two = refl; second = refl }
+    pub bst_front_law : {e f : Quill} {o₂ o₃ : List ℕ} → Puts true (fixed 4 ∷ []) d e o₁ o₂ (fields (m.time ∷ []) ∷ []) → Puts true (integer ∷ []) e f o₂ o₃ (num m.profile ∷ [])
+        → FrontPut m.mandatory m.has_others m.others (id_count ∷ []) c (record { quill = f; first = m.mandatory; second = m.others; two = m.has_others }) o o₃ (bst_front m)
+    bst_front_law clock profile =
+        record { so = then bst_lead (before ((entry_count ∷ []) ++ (when m.has_others (entry_count ∷ []) ++ (id_count ∷ []))) (and_then clock profile)); first = refl; two = refl; second = refl }
 
 -- ---- the whole
 
 -- the limit of rows is kept with the second list, and is said behind all of them
-limit-behind : (a b fits d : Bool) → (a && ((b && fits) && (d && true))) ≡ ((a && (b && d)) && fits)
-limit-behind false b fits d = refl
-limit-behind true false fits d = refl
-limit-behind true true true d = refl
-limit-behind true true false d = sym (and_right d refl)
+limit_behind : (a b fits d : Bool) → (a && ((b && fits) && (d && true))) ≡ ((a && (b && d)) && fits)
+limit_behind false b fits d = refl
+limit_behind true false fits d = refl
+limit_behind true true true d = refl
+limit_behind true true false d = sym (and_right d refl)
 
 module _ (s : List ℕ) (m : Vst) (es : List Entry) (rs : List Row) where
-  vst-by : {c h r : Quill} {f : LinkFront} {o o₁ o₂ o₃ : List ℕ} → FrontPut m.applications false 0 (class ∷ []) c f o o₁ (vstFront m)
+  vst_by : {c h r : Quill} {f : LinkFront} {o o₁ o₂ o₃ : List ℕ} → FrontPut m.applications false 0 (class ∷ []) c f o o₁ (vst_front m)
       → Lists s es f.first f.two f.second rs f.quill h o₁ o₂ → Puts true (class ∷ []) h r o₂ o₃ (configured m)
-      → Puts (vstSound (length s) m es rs && rowsFit (kind.Vst m) es) (choice ∷ []) c r o o₃ (fields (9 ∷ []) ∷ vstValues s m es rs)
-  unfolding vstSound vstValues rowsFit rowsPresent
-  vst-by {h = h} {r = r} {f = f} {o₁ = o₁} {o₂ = o₂} {o₃ = o₃} a b g =
+      → Puts (vst_sound (length s) m es rs && rows_fit (kind.Vst m) es) (choice ∷ []) c r o o₃ (fields (9 ∷ []) ∷ vst_values s m es rs)
+  unfolding vst_sound vst_values rows_fit rows_present
+  vst_by {h = h} {r = r} {f = f} {o₁ = o₁} {o₂ = o₂} {o₃ = o₃} a b g =
       let l : Lists s es m.applications false 0 rs f.quill h o₁ o₂ = rw (a.first, a.two, a.second) at b in
-      let z : listRows es m.applications false 0 ≡ rowsPresent (kind.Vst m) es = omega arith in
-      let e : leb (listRows es m.applications false 0) mostRows ≡ rowsFit (kind.Vst m) es = ap (λ (n : ℕ). leb n mostRows) z in
-      rw (← e, ← and-unit (leb (listRows es m.applications false 0) mostRows)) (then a.so (and_then l.first (and_then l.second (and_then g (nothing [] r o₃)))))
+      let z : list_rows es m.applications false 0 ≡ rows_present (kind.Vst m) es = omega arith in
+      let e : leb (list_rows es m.applications false 0) most_rows ≡ rows_fit (kind.Vst m) es = ap (λ (n : ℕ). leb n most_rows) z in
+      rw (← e, ← and_unit (leb (list_rows es m.applications false 0) most_rows)) (then a.so (and_then l.first (and_then l.second (and_then g (nothing [] r o₃)))))
 
 module _ (s : List ℕ) (m : Bst) (es : List Entry) (rs : List Row) where
   abbrev first : List Entry
   first = take m.mandatory es
 
   abbrev S₁ : Bool
-  S₁ = entriesSound (length s) first rs
+  S₁ = entries_sound (length s) first rs
 
   abbrev S₂ : Bool
-  S₂ = soundIf m.has_others (entriesSound (length s) (take m.others (drop m.mandatory es)) (drop (rows_of first) rs))
+  S₂ = sound_if m.has_others (entries_sound (length s) (take m.others (drop m.mandatory es)) (drop (rows_of first) rs))
 
   abbrev S₃ : Bool
-  S₃ = isInside (length s) m.profiles m.profile_count
+  S₃ = is_inside (length s) m.profiles m.profile_count
 
-  bst-by : {c h r : Quill} {f : LinkFront} {o o₁ o₂ o₃ : List ℕ}
-      → FrontPut m.mandatory m.has_others m.others (idCount ∷ []) c f o o₁ (bstFront m)
-      → Lists s es f.first f.two f.second rs f.quill h o₁ o₂ → Puts S₃ (idCount ∷ []) h r o₂ o₃ (idList s m.profiles m.profile_count)
-      → Puts (bstSound (length s) m es rs && rowsFit (kind.Bst m) es) (choice ∷ []) c r o o₃ (fields (8 ∷ []) ∷ bstValues s m es rs)
-  unfolding bstSound bstValues rowsFit rowsPresent
-  bst-by {h = h} {r = r} {f = f} {o₁ = o₁} {o₂ = o₂} {o₃ = o₃} a b g =
+  bst_by : {c h r : Quill} {f : LinkFront} {o o₁ o₂ o₃ : List ℕ}
+      → FrontPut m.mandatory m.has_others m.others (id_count ∷ []) c f o o₁ (bst_front m)
+      → Lists s es f.first f.two f.second rs f.quill h o₁ o₂ → Puts S₃ (id_count ∷ []) h r o₂ o₃ (id_list s m.profiles m.profile_count)
+      → Puts (bst_sound (length s) m es rs && rows_fit (kind.Bst m) es) (choice ∷ []) c r o o₃ (fields (8 ∷ []) ∷ bst_values s m es rs)
+  unfolding bst_sound bst_values rows_fit rows_present
+  bst_by {h = h} {r = r} {f = f} {o₁ = o₁} {o₂ = o₂} {o₃ = o₃} a b g =
       let l : Lists s es m.mandatory m.has_others m.others rs f.quill h o₁ o₂ = rw (a.first, a.two, a.second) at b in
-      rw (← own-sound (length s) first rs, ← limit-behind S₁ S₂ (rowsFit (kind.Bst m) es) S₃) (then a.so (and_then l.first (and_then l.second (and_then g (nothing [] r o₃)))))
+      rw (← own_sound (length s) first rs, ← limit_behind S₁ S₂ (rows_fit (kind.Bst m) es) S₃) (then a.so (and_then l.first (and_then l.second (and_then g (nothing [] r o₃)))))
 
-pub link-by : (s : List ℕ) (m : Message) (es : List Entry) (rs : List Row) {c h r : Quill} {f : LinkFront} {o o₁ o₂ o₃ : List ℕ} → LinkFrontPut m c f o o₁
+pub link_by : (s : List ℕ) (m : Message) (es : List Entry) (rs : List Row) {c h r : Quill} {f : LinkFront} {o o₁ o₂ o₃ : List ℕ} → LinkFrontPut m c f o o₁
     → Lists s es f.first f.two f.second rs f.quill h o₁ o₂ → LinkTailPut s m h r o₂ o₃ → LinkPut s m es rs c r o o₃
-link-by s m es rs a b g = record { bst = λ x e. bst-by s x es rs (a.bst x e) b (g.bst x e); vst = λ x e. vst-by s x es rs (a.vst x e) b (g.vst x e) }
+link_by s m es rs a b g = record { bst = λ x e. bst_by s x es rs (a.bst x e) b (g.bst x e); vst = λ x e. vst_by s x es rs (a.vst x e) b (g.vst x e) }
 
 -- ---- by kind
 
 module _ {P : Bst → Type 0} {Q : Vst → Type 0} {m : Message} where
-  pub is-bst : {x : Bst} → m ≡ kind.Bst x → P x → ByKind P Q m
-  is-bst {x = x} e p =
+  pub is_bst : {x : Bst} → m ≡ kind.Bst x → P x → ByKind P Q m
+  is_bst {x = x} e p =
       record {
         bst = λ y f. let g : x ≡ y = cc in subst P g p;
         vst = λ y f. let z : ◌≡◌ {A = ℕ} 0 1 = cc in absurd (omega arith);
       }
 
-  pub is-vst : {x : Vst} → m ≡ kind.Vst x → Q x → ByKind P Q m
-  is-vst {x = x} e q =
+  pub is_vst : {x : Vst} → m ≡ kind.Vst x → Q x → ByKind P Q m
+  is_vst {x = x} e q =
       record {
         bst = λ y f. let z : ◌≡◌ {A = ℕ} 0 1 = cc in absurd (omega arith);
         vst = λ y f. let g : x ≡ y = cc in subst Q g q;
       }
 
   -- the tag is one of another kind
-  pub is-other : OneOf (0 ∷ 1 ∷ 2 ∷ 3 ∷ 4 ∷ 5 ∷ 6 ∷ 7 ∷ []) (Declared.tag_of message.the_type m) → ByKind P Q m
-  is-other o = record { bst = λ y f. absurd (not-tag 8 (ap (Declared.tag_of message.the_type) f) tt); vst = λ y f. absurd (not-tag 9 (ap (Declared.tag_of message.the_type) f) tt) }
+  pub is_other : OneOf (0 ∷ 1 ∷ 2 ∷ 3 ∷ 4 ∷ 5 ∷ 6 ∷ 7 ∷ []) (Declared.tag_of message.the_type m) → ByKind P Q m
+  is_other o = record { bst = λ y f. absurd (not_tag 8 (ap (Declared.tag_of message.the_type) f) tt); vst = λ y f. absurd (not_tag 9 (ap (Declared.tag_of message.the_type) f) tt) }
     where
-      not-tag : (k : ℕ) → Declared.tag_of message.the_type m ≡ k → T (not (has_key (0 ∷ 1 ∷ 2 ∷ 3 ∷ 4 ∷ 5 ∷ 6 ∷ 7 ∷ []) k)) → ⊥
-      not-tag k e n = miss (0 ∷ 1 ∷ 2 ∷ 3 ∷ 4 ∷ 5 ∷ 6 ∷ 7 ∷ []) k n (subst (OneOf (0 ∷ 1 ∷ 2 ∷ 3 ∷ 4 ∷ 5 ∷ 6 ∷ 7 ∷ [])) e o)
+      not_tag : (k : ℕ) → Declared.tag_of message.the_type m ≡ k → T (not (has_key (0 ∷ 1 ∷ 2 ∷ 3 ∷ 4 ∷ 5 ∷ 6 ∷ 7 ∷ []) k)) → ⊥
+      not_tag k e n = miss (0 ∷ 1 ∷ 2 ∷ 3 ∷ 4 ∷ 5 ∷ 6 ∷ 7 ∷ []) k n (subst (OneOf (0 ∷ 1 ∷ 2 ∷ 3 ∷ 4 ∷ 5 ∷ 6 ∷ 7 ∷ [])) e o)

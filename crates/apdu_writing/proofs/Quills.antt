@@ -11,33 +11,33 @@ use Rattle.apdu_writing.specs.Quill.{quill, far, least, behind, Put, spent}
 
 -- ---- places
 
-pub least-far : (n : ℕ) → far ≤ n → far ≡ least n
+pub least_far : (n : ℕ) → far ≤ n → far ≡ least n
 unfolding least
-least-far n h = rw (le-ltb n far h)
+least_far n h = rw (le-ltb n far h)
 
-pub least-near : (n : ℕ) → n < far → n ≡ least n
+pub least_near : (n : ℕ) → n < far → n ≡ least n
 unfolding least
-least-near n h = rw (lt-ltb n far h)
+least_near n h = rw (lt-ltb n far h)
 
 -- ---- put
 
 module _ {k : ℕ} {fine : Bool} {c : Quill} {x o : List ℕ} where
-  pub put-stopped : not c.ok ≡ true → Put k fine c c x o o
+  pub put_stopped : not c.ok ≡ true → Put k fine c c x o o
   unfolding behind
-  put-stopped h = let n = not-true c.ok h in record { is = rw n; out = rw n }
+  put_stopped h = let n = not-true c.ok h in record { is = rw n; out = rw n }
 
   pub put_wrong : not c.ok ≡ false → fine ≡ false → Put k fine c (quill c.at c.room false) x o o
   unfolding behind
   put_wrong h f = let n = not-false c.ok h in record { is = rw (n, f); out = rw (n, f) }
 
-  pub put-done : not c.ok ≡ false → fine ≡ true → {o' : List ℕ} → o' ≡ x → {at : ℕ} → at ≡ least (c.at + k) → Put k fine c (quill at c.room true) x o o'
+  pub put_done : not c.ok ≡ false → fine ≡ true → {o' : List ℕ} → o' ≡ x → {at : ℕ} → at ≡ least (c.at + k) → Put k fine c (quill at c.room true) x o o'
   unfolding behind
-  put-done h f e a = let n = not-false c.ok h in record { is = rw (n, f) (ap (λ (i : ℕ). quill i c.room true) a); out = rw (n, f) e }
+  put_done h f e a = let n = not-false c.ok h in record { is = rw (n, f) (ap (λ (i : ℕ). quill i c.room true) a); out = rw (n, f) e }
 
 -- octets that may be written, by a test and its law
 module _ (fine : Bool) {r x : Bool} (e : r ≡ x) where
-  pub both-not : not (fine && r) ≡ true → (fine && x) ≡ false
-  both-not h = ap (λ (b : Bool). fine && b) (sym e) ∙ not-true (fine && r) h
+  pub both_not : not (fine && r) ≡ true → (fine && x) ≡ false
+  both_not h = ap (λ (b : Bool). fine && b) (sym e) ∙ not-true (fine && r) h
 
   pub both_so : not (fine && r) ≡ false → (fine && x) ≡ true
   both_so h = ap (λ (b : Bool). fine && b) (sym e) ∙ not-false (fine && r) h

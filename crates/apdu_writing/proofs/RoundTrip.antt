@@ -10,27 +10,27 @@ use lib.ListN.{length}
 use lib.Dec.{ltb}
 use borrow.Author.Tests.{ltb-true, ltb-false}
 use Rattle.refusals.proofs.Tests.{by_cases}
-use Rattle.apdu_format.specs.Limits.{longestMessage}
-use Rattle.apdu_format.specs.Writing.{size, encodedOctets}
+use Rattle.apdu_format.specs.Limits.{longest_message}
+use Rattle.apdu_format.specs.Writing.{size, encoded_octets}
 use Rattle.apdu_format.specs.RoundTrip.{ReadAs}
-use Rattle.apdu_format.proofs.RoundTrip.{encoded, read-written}
+use Rattle.apdu_format.proofs.RoundTrip.{encoded, read_written}
 use Rattle.apdu.specs.declared.lists.Row.{Row}
 use Rattle.apdu.specs.declared.lists.Entry.{Entry}
 use Rattle.apdu.specs.declared.records.Message.{Message}
 use Rattle.apdu.specs.Values.{values_of}
-use Rattle.apdu.specs.Sound.{wellFormed}
-use Rattle.apdu.proofs.Formed.{formed-ranges}
-use Rattle.apdu_writing.specs.Answer.{writeRefusal}
-use Rattle.apdu_writing.proofs.Answers.{refusal-23, refusal-21}
+use Rattle.apdu.specs.Sound.{well_formed}
+use Rattle.apdu.proofs.Formed.{formed_ranges}
+use Rattle.apdu_writing.specs.Answer.{write_refusal}
+use Rattle.apdu_writing.proofs.Answers.{refusal_23, refusal_21}
 
-module _ (s : List ℕ) (m : Message) (es : List Entry) (rs : List Row) (out : List ℕ) (none : writeRefusal s m es rs (length out) ≡ 0) where
-  formed : wellFormed s m es rs ≡ true
-  formed = by_cases (wellFormed s m es rs) (λ h. h) (λ h. absurd (omega (arith, refusal-23 s m es rs out h)))
+module _ (s : List ℕ) (m : Message) (es : List Entry) (rs : List Row) (out : List ℕ) (none : write_refusal s m es rs (length out) ≡ 0) where
+  formed : well_formed s m es rs ≡ true
+  formed = by_cases (well_formed s m es rs) (λ h. h) (λ h. absurd (omega (arith, refusal_23 s m es rs out h)))
 
-  short : size (values_of s m es rs) ≤ longestMessage
+  short : size (values_of s m es rs) ≤ longest_message
   short =
-      by_cases (ltb longestMessage (size (values_of s m es rs))) (λ h. absurd (omega (arith, refusal-21 s m es rs out formed (ltb-true _ _ h)))) (λ h. ltb-false _ _ h)
+      by_cases (ltb longest_message (size (values_of s m es rs))) (λ h. absurd (omega (arith, refusal_21 s m es rs out formed (ltb-true _ _ h)))) (λ h. ltb-false _ _ h)
 
   -- what is written is read as the same message
-  pub written-reads : ReadAs (encodedOctets (values_of s m es rs)) (values_of s m es rs)
-  written-reads = read-written (encodedOctets (values_of s m es rs)) (values_of s m es rs) (encoded (values_of s m es rs) (formed-ranges s m es rs formed) short)
+  pub written_reads : ReadAs (encoded_octets (values_of s m es rs)) (values_of s m es rs)
+  written_reads = read_written (encoded_octets (values_of s m es rs)) (values_of s m es rs) (encoded (values_of s m es rs) (formed_ranges s m es rs formed) short)

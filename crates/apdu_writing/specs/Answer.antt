@@ -2,42 +2,42 @@
 -- Assumes nothing.
 use Rattle.std.specs.Prelude.{ℕ, List, [], ◌∷◌, ◌++◌, not, length, drop, ltb, eqb}
 use Rattle.refusals.specs.Check.{pick, check, first_of}
-use Rattle.apdu_format.specs.Limits.{longestMessage}
-use Rattle.apdu_format.specs.Writing.{size, encodedOctets}
+use Rattle.apdu_format.specs.Limits.{longest_message}
+use Rattle.apdu_format.specs.Writing.{size, encoded_octets}
 use Rattle.apdu.specs.declared.lists.Row.{Row}
 use Rattle.apdu.specs.declared.lists.Entry.{Entry}
 use Rattle.apdu.specs.declared.records.Message.{Message}
 use Rattle.apdu.specs.Values.{values_of}
 use Rattle.apdu_writing.specs.declared.writing.ApduWritten.{ApduWritten}
 use Rattle.apdu_writing.specs.declared.writing.ApduWritten.TheVariants as written
-use Rattle.apdu.specs.Sound.{wellFormed}
+use Rattle.apdu.specs.Sound.{well_formed}
 
 -- 01's number, with its position where it has one; or how many octets were written
 pub data Answer : Type 0 where
   refused : ℕ → Answer
-  refusedAt : ℕ → ℕ → Answer
+  refused_at : ℕ → ℕ → Answer
   octets : ℕ → Answer
 
 unfoldable pub answer_of : ApduWritten → Answer
 answer_of written.RecordOutOfRange = refused 23
-answer_of (written.MessageTooLong p) = refusedAt 21 p
+answer_of (written.MessageTooLong p) = refused_at 21 p
 answer_of written.OutputTooSmall = refused 22
 answer_of (written.Octets n) = octets n
 
 -- the refusal of writing to an output of n octets, or 0
-unfoldable pub writeRefusal : List ℕ → Message → List Entry → List Row → ℕ → ℕ
-writeRefusal s m es rs n =
+unfoldable pub write_refusal : List ℕ → Message → List Entry → List Row → ℕ → ℕ
+write_refusal s m es rs n =
     let vs = values_of s m es rs in
-    first_of (check 23 (not (wellFormed s m es rs)) ∷ check 21 (ltb longestMessage (size vs)) ∷ check 22 (ltb n (size vs)) ∷ [])
+    first_of (check 23 (not (well_formed s m es rs)) ∷ check 21 (ltb longest_message (size vs)) ∷ check 22 (ltb n (size vs)) ∷ [])
 
 -- 21 carries the number 512 as its position; 22 and 23 have none
 unfoldable pub answered : ℕ → ℕ → Answer
-answered k n = pick (eqb k 0) (octets n) (pick (eqb k 21) (refusedAt 21 longestMessage) (refused k))
+answered k n = pick (eqb k 0) (octets n) (pick (eqb k 21) (refused_at 21 longest_message) (refused k))
 
-unfoldable pub writeAnswer : List ℕ → Message → List Entry → List Row → ℕ → Answer
-writeAnswer s m es rs n = answered (writeRefusal s m es rs n) (size (values_of s m es rs))
+unfoldable pub write_answer : List ℕ → Message → List Entry → List Row → ℕ → Answer
+write_answer s m es rs n = answered (write_refusal s m es rs n) (size (values_of s m es rs))
 
 -- the output afterwards: the message's octets from its front and every other octet as it was; a refusal changes nothing
-unfoldable pub writeOutput : List ℕ → Message → List Entry → List Row → List ℕ → List ℕ
-writeOutput s m es rs out =
-    let vs = values_of s m es rs in pick (eqb (writeRefusal s m es rs (length out)) 0) (encodedOctets vs ++ drop (size vs) out) out
+unfoldable pub write_output : List ℕ → Message → List Entry → List Row → List ℕ → List ℕ
+write_output s m es rs out =
+    let vs = values_of s m es rs in pick (eqb (write_refusal s m es rs (length out)) 0) (encoded_octets vs ++ drop (size vs) out) out

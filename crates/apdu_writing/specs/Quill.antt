@@ -2,11 +2,11 @@
 -- Assumes nothing.
 use Rattle.std.specs.Prelude.{ℕ, ◌+◌, ◌-◌, ◌*◌, ◌<◌, ◌≤◌, ◌≡◌, List, [], ◌++◌, Bool, true, false, ◌&&◌, ◌⊎◌, length, ltb, leb}
 use Rattle.refusals.specs.Check.{pick}
-use Rattle.bits.specs.Bits.{Bits, Octets, putBits}
-use Rattle.apdu_format.specs.Limits.{mostRows}
+use Rattle.bits.specs.Bits.{Bits, Octets, put_bits}
+use Rattle.apdu_format.specs.Limits.{most_rows}
 use Rattle.apdu_format.specs.Component.{Component}
 use Rattle.apdu_format.specs.Table.{layout_of}
-use Rattle.apdu_format.specs.Rules.{knownKind}
+use Rattle.apdu_format.specs.Rules.{known_kind}
 use Rattle.apdu_format.specs.Reading.{Value, levels}
 use Rattle.apdu_format.specs.Writing.{Pen, puts}
 use Rattle.apdu_writing.specs.declared.quill.Quill.{Quill}
@@ -38,15 +38,15 @@ halted c = quill c.at c.room false
 
 -- the quill behind so many rows, which keep the limit or stop it
 unfoldable pub limited : ℕ → Quill → Quill
-limited n c = quill c.at c.room (c.ok && leb n mostRows)
+limited n c = quill c.at c.room (c.ok && leb n most_rows)
 
 unfoldable pub spent : ℕ → Quill → Quill
 spent n c = quill c.at (c.room - n) c.ok
 
 -- ---- what is written
 
-abbrev pub penAt : List Value → ℕ → List ℕ → Pen
-penAt vs room b = record { left = vs; room = room; ok = true; out = b }
+abbrev pub pen_at : List Value → ℕ → List ℕ → Pen
+pen_at vs room b = record { left = vs; room = room; ok = true; out = b }
 
 -- the components is in turn, each with what it brings before the next
 unfoldable pub writes : List Component → Pen → Pen
@@ -59,15 +59,15 @@ pub record Goes (sound : Bool) (is js : List Component) (c r : Quill) (o o' : Li
   pub came : c.ok ≡ true
   pub w : List ℕ
   pub small : Bits w
-  pub so : (rest : List Value) (b : List ℕ) → writes is (penAt (vs ++ rest) c.room b) ≡ writes js (penAt rest r.room (b ++ w))
+  pub so : (rest : List Value) (b : List ℕ) → writes is (pen_at (vs ++ rest) c.room b) ≡ writes js (pen_at rest r.room (b ++ w))
   pub k : ℕ
   pub whole : length w ≡ 8 * k
   pub to : least r.at ≡ least (c.at + k)
-  pub ink : Octets o → c.at + k < far → c.at + k ≤ length o → o' ≡ putBits o (8 * c.at) w
+  pub ink : Octets o → c.at + k < far → c.at + k ≤ length o → o' ≡ put_bits o (8 * c.at) w
 
 -- a value of vs is out of range
 pub record Stops (is : List Component) (room : ℕ) (vs : List Value) : Type 0 where
-  pub so : (rest : List Value) (b : List ℕ) → (writes is (penAt (vs ++ rest) room b)).ok ≡ false
+  pub so : (rest : List Value) (b : List ℕ) → (writes is (pen_at (vs ++ rest) room b)).ok ≡ false
 
 -- from c to r the writer writes the values vs, or finds that they are not sound or not in range
 pub record Moves (sound : Bool) (is js : List Component) (c r : Quill) (o o' : List ℕ) (vs : List Value) : Type 0 where
@@ -80,7 +80,7 @@ Puts sound is c r o o' vs = Moves sound is [] c r o o' vs
 
 -- a kind is known, and not too deep, where it is in range
 pub record Known (d k : ℕ) (r : Quill) : Type 0 where
-  pub kind : r.ok ≡ true → knownKind k ≡ true
+  pub kind : r.ok ≡ true → known_kind k ≡ true
   pub deep : r.ok ≡ true → d ≤ 4
 
 -- a count is small where it is in range

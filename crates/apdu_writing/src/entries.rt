@@ -2,9 +2,9 @@
 ghost use Rattle.std.specs.Prelude.{[], ◌∷◌, ◌+◌, ◌<◌, ◌≤◌, length, take, drop};
 ghost use Rattle.apdu_format.specs.Component.{container, entry};
 ghost use Rattle.apdu_format.specs.Rules.{when};
-ghost use Rattle.apdu.specs.Values.{if, containerValues, entry_rows, entryValues};
+ghost use Rattle.apdu.specs.Values.{if, container_values, entry_rows, entry_values};
 ghost use Rattle.apdu_writing.specs.Quill.{Puts};
-ghost use Rattle.apdu.specs.Sound.{soundIf, containerSound, entrySound};
+ghost use Rattle.apdu.specs.Sound.{sound_if, container_sound, entry_sound};
 ghost use Rattle.apdu_writing.specs.Applications.{Listed};
 
 use crate::component::number_if;
@@ -27,7 +27,7 @@ fn parameter(
     out: &mut [u8],
     c: Quill,
 ) -> Quill
-    ensures { Puts (soundIf p (containerSound (length lent.now) k n start (take count (drop first table)))) (when p (container 1 ∷ [])) c result out.old out.new (if p (containerValues lent.now k n start (take count (drop first table)))) }
+    ensures { Puts (sound_if p (container_sound (length lent.now) k n start (take count (drop first table)))) (when p (container 1 ∷ [])) c result out.old out.new (if p (container_values lent.now k n start (take count (drop first table)))) }
 {
     if p {
         return boxed(lent, table, first, count, k, n, start, out, c);
@@ -44,7 +44,7 @@ fn application(
     out: &mut [u8],
     c: Quill,
 ) -> Quill
-    ensures { Puts (entrySound (length lent.now) e (take (entry_rows e) (drop first table))) (entry ∷ []) c result out.old out.new (entryValues lent.now e (take (entry_rows e) (drop first table))) }
+    ensures { Puts (entry_sound (length lent.now) e (take (entry_rows e) (drop first table))) (entry ∷ []) c result out.old out.new (entry_values lent.now e (take (entry_rows e) (drop first table))) }
 {
     let v = 128 * bit(e.has_eid) + 64 * bit(e.has_parameter) + small(e.aid as u64, 32);
     let d = put(out, 1, v, e.aid < 32, c);

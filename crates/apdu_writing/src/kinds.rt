@@ -2,9 +2,9 @@
 ghost use Rattle.std.specs.Prelude.{◌≡◌, true, [], ◌∷◌, ◌<◌, ◌≤◌, length};
 ghost use Rattle.apdu_format.specs.Component.{choice};
 ghost use Rattle.apdu_format.specs.Reading.{fields};
-ghost use Rattle.apdu.specs.Values.{bit_of, responseValues, requestValues, actionResponseValues, setRequestValues, getRequestValues, getResponseValues};
+ghost use Rattle.apdu.specs.Values.{bit_of, response_values, request_values, action_response_values, set_request_values, get_request_values, get_response_values};
 ghost use Rattle.apdu_writing.specs.Quill.{Puts, Small, As};
-ghost use Rattle.apdu.specs.Sound.{requestSound, actionResponseSound, setRequestSound, getRequestSound, getResponseSound};
+ghost use Rattle.apdu.specs.Sound.{request_sound, action_response_sound, set_request_sound, get_request_sound, get_response_sound};
 
 use crate::component::{number, number_if, string_if};
 use crate::lists::{attributes, attributes_if, boxed_if, ids_if};
@@ -28,7 +28,7 @@ pub(crate) fn small(n: u64, bound: u64) -> u64
 // Event or set response.
 pub(crate) fn response(k: u64, m: Response, out: &mut [u8], c: Quill) -> Quill
     requires { k < 10 }
-    ensures { As k 3 (Puts true (choice ∷ []) c result out.old out.new (fields (k ∷ []) ∷ responseValues m)) }
+    ensures { As k 3 (Puts true (choice ∷ []) c result out.old out.new (fields (k ∷ []) ∷ response_values m)) }
 {
     let v = 16 * k + 8 * bit(m.has_iid) + 4 * bit(m.has_ret) + small(m.fill, 4);
     let d = put(out, 1, v, m.fill < 4, c);
@@ -47,7 +47,7 @@ pub(crate) fn request(
     c: Quill,
 ) -> Quill
     requires { k < 10 }
-    ensures { As k 0 (Puts (requestSound (length lent.now) m table) (choice ∷ []) c result out.old out.new (fields (k ∷ []) ∷ requestValues lent.now m table)) }
+    ensures { As k 0 (Puts (request_sound (length lent.now) m table) (choice ∷ []) c result out.old out.new (fields (k ∷ []) ∷ request_values lent.now m table)) }
 {
     let v = 16 * k
         + 8 * bit(m.has_credentials)
@@ -86,7 +86,7 @@ pub(crate) fn action_response(
     out: &mut [u8],
     c: Quill,
 ) -> Quill
-    ensures { Puts (actionResponseSound (length lent.now) m table) (choice ∷ []) c result out.old out.new (fields (1 ∷ []) ∷ actionResponseValues lent.now m table) }
+    ensures { Puts (action_response_sound (length lent.now) m table) (choice ∷ []) c result out.old out.new (fields (1 ∷ []) ∷ action_response_values lent.now m table) }
 {
     let v = 16 * 1
         + 8 * bit(m.has_iid)
@@ -117,7 +117,7 @@ pub(crate) fn set_request(
     out: &mut [u8],
     c: Quill,
 ) -> Quill
-    ensures { Puts (setRequestSound (length lent.now) m table) (choice ∷ []) c result out.old out.new (fields (4 ∷ []) ∷ setRequestValues lent.now m table) }
+    ensures { Puts (set_request_sound (length lent.now) m table) (choice ∷ []) c result out.old out.new (fields (4 ∷ []) ∷ set_request_values lent.now m table) }
 {
     let v = 16 * 4
         + 8 * bit(m.has_credentials)
@@ -139,7 +139,7 @@ pub(crate) fn set_request(
 }
 
 pub(crate) fn get_request(lent: &[u8], m: GetRequest, out: &mut [u8], c: Quill) -> Quill
-    ensures { Puts (getRequestSound (length lent.now) m) (choice ∷ []) c result out.old out.new (fields (6 ∷ []) ∷ getRequestValues lent.now m) }
+    ensures { Puts (get_request_sound (length lent.now) m) (choice ∷ []) c result out.old out.new (fields (6 ∷ []) ∷ get_request_values lent.now m) }
 {
     let v = 16 * 6
         + 8 * bit(m.has_credentials)
@@ -167,7 +167,7 @@ pub(crate) fn get_response(
     out: &mut [u8],
     c: Quill,
 ) -> Quill
-    ensures { Puts (getResponseSound (length lent.now) m table) (choice ∷ []) c result out.old out.new (fields (7 ∷ []) ∷ getResponseValues lent.now m table) }
+    ensures { Puts (get_response_sound (length lent.now) m table) (choice ∷ []) c result out.old out.new (fields (7 ∷ []) ∷ get_response_values lent.now m table) }
 {
     let v = 16 * 7
         + 8 * bit(m.has_iid)

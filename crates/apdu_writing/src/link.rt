@@ -1,12 +1,12 @@
 // BST and VST: the part before their application lists, the lists, and the part behind them.
 ghost use Rattle.std.specs.Prelude.{true, false, [], ◌∷◌};
-ghost use Rattle.apdu_format.specs.Component.{fixed, class, idCount};
+ghost use Rattle.apdu_format.specs.Component.{fixed, class, id_count};
 ghost use Rattle.apdu_format.specs.Rules.{when};
 ghost use Rattle.apdu_format.specs.Reading.{fields};
 ghost use Rattle.apdu.specs.Values.{bit_of, if};
 ghost use Rattle.apdu_writing.specs.Quill.{Puts};
 ghost use Rattle.apdu_writing.specs.Applications.{Lists};
-ghost use Rattle.apdu_writing.specs.Link.{bstFront, vstFront, FrontPut, LinkFrontPut, LinkTailPut, LinkPut};
+ghost use Rattle.apdu_writing.specs.Link.{bst_front, vst_front, FrontPut, LinkFrontPut, LinkTailPut, LinkPut};
 
 use crate::component::number;
 use crate::counted::ids;
@@ -59,7 +59,7 @@ pub struct LinkFront {
 }
 
 fn bst_front(m: Bst, out: &mut [u8], c: Quill) -> LinkFront
-    ensures { FrontPut m.mandatory m.has_others m.others (idCount ∷ []) c result out.old out.new (bstFront m) }
+    ensures { FrontPut m.mandatory m.has_others m.others (id_count ∷ []) c result out.old out.new (bst_front m) }
 {
     let v = 17592186044416 * 8
         + 8796093022208 * bit(m.has_others)
@@ -78,7 +78,7 @@ fn bst_front(m: Bst, out: &mut [u8], c: Quill) -> LinkFront
 }
 
 fn vst_front(m: Vst, out: &mut [u8], c: Quill) -> LinkFront
-    ensures { FrontPut m.applications false 0 (class ∷ []) c result out.old out.new (vstFront m) }
+    ensures { FrontPut m.applications false 0 (class ∷ []) c result out.old out.new (vst_front m) }
 {
     let d = put(out, 1, 16 * 9 + small(m.fill, 16), m.fill < 16, c);
     let quill = number(m.profile, out, d);

@@ -1,11 +1,11 @@
 // Containers and attribute lists with their rows.
 ghost use Rattle.std.specs.Prelude.{[], ◌∷◌, length, take, drop};
-ghost use Rattle.apdu_format.specs.Component.{container, rowCount, idCount};
+ghost use Rattle.apdu_format.specs.Component.{container, row_count, id_count};
 ghost use Rattle.apdu_format.specs.Rules.{when};
-ghost use Rattle.bits.specs.Strings.{isInside};
-ghost use Rattle.apdu.specs.Values.{num, if, idList, containerValues, rowsValues};
+ghost use Rattle.bits.specs.Strings.{is_inside};
+ghost use Rattle.apdu.specs.Values.{num, if, id_list, container_values, rows_values};
 ghost use Rattle.apdu_writing.specs.Quill.{Puts};
-ghost use Rattle.apdu.specs.Sound.{soundIf, rowsSound, containerSound};
+ghost use Rattle.apdu.specs.Sound.{sound_if, rows_sound, container_sound};
 
 use crate::container::head;
 use crate::counted::{ids, row_count};
@@ -25,7 +25,7 @@ pub(crate) fn boxed(
     out: &mut [u8],
     c: Quill,
 ) -> Quill
-    ensures { Puts (containerSound (length lent.now) k n start (take count (drop first table))) (container 1 ∷ []) c result out.old out.new (containerValues lent.now k n start (take count (drop first table))) }
+    ensures { Puts (container_sound (length lent.now) k n start (take count (drop first table))) (container 1 ∷ []) c result out.old out.new (container_values lent.now k n start (take count (drop first table))) }
 {
     let d = head(lent, 1, k, n, start, out, c);
     let announced = announces(k, n);
@@ -57,7 +57,7 @@ pub(crate) fn boxed_if(
     out: &mut [u8],
     c: Quill,
 ) -> Quill
-    ensures { Puts (soundIf p (containerSound (length lent.now) k n start (take count table))) (when p (container 1 ∷ [])) c result out.old out.new (if p (containerValues lent.now k n start (take count table))) }
+    ensures { Puts (sound_if p (container_sound (length lent.now) k n start (take count table))) (when p (container 1 ∷ [])) c result out.old out.new (if p (container_values lent.now k n start (take count table))) }
 {
     if p {
         return boxed(lent, table, 0, count, k, n, start, out, c);
@@ -74,7 +74,7 @@ pub(crate) fn attributes(
     out: &mut [u8],
     c: Quill,
 ) -> Quill
-    ensures { Puts (rowsSound (length lent.now) n (take count table)) (rowCount 1 ∷ []) c result out.old out.new (num n ∷ rowsValues lent.now (take count table)) }
+    ensures { Puts (rows_sound (length lent.now) n (take count table)) (row_count 1 ∷ []) c result out.old out.new (num n ∷ rows_values lent.now (take count table)) }
 {
     let d = row_count(1, n, out, c);
     let due = Due {
@@ -97,7 +97,7 @@ pub(crate) fn attributes_if(
     out: &mut [u8],
     c: Quill,
 ) -> Quill
-    ensures { Puts (soundIf p (rowsSound (length lent.now) n (take count table))) (when p (rowCount 1 ∷ [])) c result out.old out.new (if p (num n ∷ rowsValues lent.now (take count table))) }
+    ensures { Puts (sound_if p (rows_sound (length lent.now) n (take count table))) (when p (row_count 1 ∷ [])) c result out.old out.new (if p (num n ∷ rows_values lent.now (take count table))) }
 {
     if p {
         return attributes(lent, table, count, n, out, c);
@@ -107,7 +107,7 @@ pub(crate) fn attributes_if(
 
 // A list of ids, if it is there.
 pub(crate) fn ids_if(p: bool, lent: &[u8], start: usize, n: u64, out: &mut [u8], c: Quill) -> Quill
-    ensures { Puts (soundIf p (isInside (length lent.now) start n)) (when p (idCount ∷ [])) c result out.old out.new (if p (idList lent.now start n)) }
+    ensures { Puts (sound_if p (is_inside (length lent.now) start n)) (when p (id_count ∷ [])) c result out.old out.new (if p (id_list lent.now start n)) }
 {
     if p {
         return ids(lent, start, n, out, c);

@@ -3,7 +3,7 @@ ghost use Rattle.std.specs.Prelude.{◌&&◌, [], ◌∷◌, length};
 ghost use Rattle.apdu_format.specs.Component.{choice};
 ghost use Rattle.apdu.specs.Values.{values_of};
 ghost use Rattle.apdu_writing.specs.Quill.{Puts};
-ghost use Rattle.apdu.specs.Sound.{sound, rowsFit};
+ghost use Rattle.apdu.specs.Sound.{sound, rows_fit};
 
 use crate::kinds::{action_response, get_request, get_response, request, response, set_request};
 use crate::link::link_message;
@@ -20,7 +20,7 @@ pub(crate) fn put_message(
     out: &mut [u8],
     c: Quill,
 ) -> Quill
-    ensures { Puts (sound (length lent.now) m list table && rowsFit m list) (choice ∷ []) c result out.old out.new (values_of lent.now m list table) }
+    ensures { Puts (sound (length lent.now) m list table && rows_fit m list) (choice ∷ []) c result out.old out.new (values_of lent.now m list table) }
 {
     match m {
         Message::ActionRequest(x) => {

@@ -1,7 +1,7 @@
 // The quill: a place in the output, by value. Once a value is out of range it stays so, and nothing more is written.
 ghost use Rattle.std.specs.Prelude.{◌≡◌, ◌&&◌, ◌+◌, ◌*◌, ◌<◌, ◌≤◌, length};
-ghost use Rattle.bits.specs.Bits.{writeField};
-ghost use Rattle.bits.specs.Strings.{isInside, writeString};
+ghost use Rattle.bits.specs.Bits.{write_field};
+ghost use Rattle.bits.specs.Strings.{is_inside, write_string};
 ghost use Rattle.apdu_writing.specs.Quill.{least, Put, spent};
 
 // at: the next octet, or FAR for any place from there on; room: how many attribute rows may still be announced; ok: whether all so far is in range.
@@ -30,7 +30,7 @@ fn beyond(at: u16, octets: usize) -> u16
 // Writes the so many low octets of `v` where they fit, if `fine`.
 pub(crate) fn put(out: &mut [u8], octets: usize, v: u64, fine: bool, c: Quill) -> Quill
     requires { octets ≤ 6 }
-    ensures { Put octets fine c result (writeField out.old (8 * c.at) (8 * octets) v) out.old out.new }
+    ensures { Put octets fine c result (write_field out.old (8 * c.at) (8 * octets) v) out.old out.new }
 {
     if !c.ok {
         return c;
@@ -60,7 +60,7 @@ pub(crate) fn put_octets(
     c: Quill,
 ) -> Quill
     requires { n < 128 }
-    ensures { Put n (fine && isInside (length lent.now) start n) c result (writeString lent.now start n out.old (8 * c.at)) out.old out.new }
+    ensures { Put n (fine && is_inside (length lent.now) start n) c result (write_string lent.now start n out.old (8 * c.at)) out.old out.new }
 {
     if !c.ok {
         return c;

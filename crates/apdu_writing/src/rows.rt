@@ -1,9 +1,9 @@
 // Attribute rows, one after the other.
 ghost use Rattle.std.specs.Prelude.{◌≡◌, ◌-◌, length, take, drop, eqb};
-ghost use Rattle.apdu.specs.Values.{rowsValues};
+ghost use Rattle.apdu.specs.Values.{rows_values};
 ghost use Rattle.apdu_writing.specs.Quill.{Puts, halted, limited};
-ghost use Rattle.apdu.specs.RowCounters.{total, dueList};
-ghost use Rattle.apdu.specs.Sound.{rowsSound, countIf};
+ghost use Rattle.apdu.specs.RowCounters.{total, due_list};
+ghost use Rattle.apdu.specs.Sound.{rows_sound, count_if};
 
 use crate::container::next_row;
 use crate::quill::Quill;
@@ -40,7 +40,7 @@ pub(crate) fn halt(c: Quill) -> Quill
 
 // The quill behind so many rows, if they are there: it stops where they pass the limit of a message.
 pub(crate) fn within(p: bool, rows: usize, c: Quill) -> Quill
-    ensures { result ≡ limited (countIf p rows) c }
+    ensures { result ≡ limited (count_if p rows) c }
 {
     if p {
         if apdu::MOST_ROWS < rows as u64 {
@@ -60,7 +60,7 @@ pub(crate) fn rows(
     out: &mut [u8],
     c: Quill,
 ) -> Quill
-    ensures { Puts (rowsSound (length lent.now) (total due) (take count (drop first table))) (dueList due) c result out.old out.new (rowsValues lent.now (take count (drop first table))) }
+    ensures { Puts (rows_sound (length lent.now) (total due) (take count (drop first table))) (due_list due) c result out.old out.new (rows_values lent.now (take count (drop first table))) }
 {
     let n = clamped(first, count);
     let mut d = c;

@@ -1,7 +1,7 @@
 // Writing a message.
 ghost use Rattle.std.specs.Prelude.{◌≡◌, length};
-ghost use Rattle.apdu.specs.Sound.{wellFormed};
-ghost use Rattle.apdu_writing.specs.Answer.{answer_of, writeAnswer, writeOutput};
+ghost use Rattle.apdu.specs.Sound.{well_formed};
+ghost use Rattle.apdu_writing.specs.Answer.{answer_of, write_answer, write_output};
 
 use crate::message::put_message;
 use crate::quill::Quill;
@@ -9,7 +9,7 @@ use apdu::{Entry, Message, Row};
 
 // Whether a record keeps the condition of 23: each range, limit and depth of what is present, and each part inside `lent`.
 pub fn well_formed(message: Message, rows: [Row; 32], entries: [Entry; 32], lent: &[u8]) -> bool
-    ensures { result ≡ wellFormed lent.now message entries rows }
+    ensures { result ≡ well_formed lent.now message entries rows }
 {
     let mut none: [u8; 1] = [0; 1];
     let size = put_message(
@@ -45,7 +45,7 @@ pub fn write(
     lent: &[u8],
     out: &mut [u8],
 ) -> ApduWritten
-    ensures { (answer_of result ≡ writeAnswer lent.now message entries rows (length out.old)) × (out.new ≡ writeOutput lent.now message entries rows out.old) }
+    ensures { (answer_of result ≡ write_answer lent.now message entries rows (length out.old)) × (out.new ≡ write_output lent.now message entries rows out.old) }
 {
     let mut page: [u8; 512] = [0; 512];
     let end = put_message(

@@ -6,7 +6,7 @@ use lib.ListN.{take}
 use Rattle.directory.specs.declared.Row.{Row}
 use Rattle.directory.specs.declared.Directory.{Directory}
 use Rattle.directory.specs.Gathered.{list_of}
-use Rattle.directory.proofs.Looking.{list-is}
+use Rattle.directory.proofs.Looking.{list_is}
 use Rattle.attributes.specs.declared.answers.RequestAnswer.{RequestAnswer}
 use Rattle.attributes.specs.Inside.{tag_of}
 use Rattle.attributes.specs.Serving.{Answered}
@@ -15,5 +15,5 @@ module _ (eid : ℕ) (credentials : List ℕ) (rows : List Row) (count : ℕ) (f
   abbrev among : Directory
   among = record { rows = rows; count = count }
 
-  pub among-answered : Answered (tag_of eid credentials (take count rows) f w) s out a w' out' → count ≤ 32 → Answered (tag_of eid credentials (list_of among) f w) s out a w' out'
-  among-answered h few = rw (list-is among few) h
+  pub among_answered : Answered (tag_of eid credentials (take count rows) f w) s out a w' out' → count ≤ 32 → Answered (tag_of eid credentials (list_of among) f w) s out a w' out'
+  among_answered h few = rw (list_is among few) h

@@ -10,8 +10,8 @@
 -- Assumes nothing.
 use Rattle.std.specs.Prelude.{ℕ, ◌+◌, ◌<◌, ◌≤◌, ◌≡◌, List, [], ◌∷◌, ◌++◌, true, false, ◌⊎◌, ltb, length, take, drop}
 use Rattle.refusals.specs.Check.{pick}
-use Rattle.apdu_format.specs.Component.{octetString}
-use Rattle.apdu_format.specs.Reading.{readMessage}
+use Rattle.apdu_format.specs.Component.{octet_string}
+use Rattle.apdu_format.specs.Reading.{read_message}
 use Rattle.apdu_format.specs.Reading.{Outcome as ReadOutcome, refused as unread, message as read}
 use Rattle.apdu_format.specs.RoundTrip.{ReadAs}
 use Rattle.apdu.specs.Values.{values_of}
@@ -22,10 +22,10 @@ use Rattle.apdu_reading.specs.declared.front.Reading.{Reading}
 use Rattle.apdu_reading.specs.Answers.{Reads}
 use Rattle.apdu.specs.declared.records.SetRequest.{SetRequest}
 use Rattle.apdu.specs.declared.records.GetRequest.{GetRequest}
-use Rattle.bits.specs.Strings.{stringAt}
+use Rattle.bits.specs.Strings.{string_at}
 use Rattle.directory.specs.declared.Row.{Row}
-use Rattle.directory.specs.Directory.{soundDirectory, known_in, row_of}
-use Rattle.attributes.specs.Serving.{leastOutput, Attribute, Tag, Reply, replied, effect, noEntries, value_of, exact, idsFrom, getStatus, served, setStatus, sent, requested, Answered}
+use Rattle.directory.specs.Directory.{sound_directory, known_in, row_of}
+use Rattle.attributes.specs.Serving.{least_output, Attribute, Tag, Reply, replied, effect, no_entries, value_of, exact, ids_from, get_status, served, set_status, sent, requested, Answered}
 use Rattle.attributes.specs.Inside.{tag_of}
 use Rattle.attributes.specs.declared.answers.RequestOutcome.{RequestOutcome}
 use Rattle.attributes.specs.declared.answers.RequestOutcome.TheVariants as outcome
@@ -40,7 +40,7 @@ ShortReplies =
 
 -- these octets are read, to their end, as the message of this reply
 abbrev pub ReplyRead : Reply → List ℕ → Type 0
-ReplyRead q octets = ReadAs octets (values_of q.lent q.message noEntries q.attributes)
+ReplyRead q octets = ReadAs octets (values_of q.lent q.message no_entries q.attributes)
 
 -- what is sent is a reply, and the n octets at the output's front are read as its message
 pub record ReadsBack (out : List ℕ) (n : ℕ) (w o : List ℕ) : Type 0 where
@@ -57,7 +57,7 @@ RepliesReadBack =
 unfoldable pub FaultyKeeps : Type 0
 FaultyKeeps =
     (tag : Tag) (s out : List ℕ) (a : RequestAnswer) (w o : List ℕ) → Answered tag s out a w o → (r : Reading) → Reads s r
-    → (m : SetRequest) → r.answer ≡ answer.Message (kind.SetRequest m) → (setStatus tag s m r.lists.rows ≡ 0 → ⊥) → w ≡ tag.writable
+    → (m : SetRequest) → r.answer ≡ answer.Message (kind.SetRequest m) → (set_status tag s m r.lists.rows ≡ 0 → ⊥) → w ≡ tag.writable
 
 -- ---- without the tag's exact credentials
 
@@ -131,9 +131,9 @@ afterwards tag w = record { eid = tag.eid; credentials = tag.credentials; direct
 pub record SetGives (tag : Tag) (s : List ℕ) (r : Reading) (out : List ℕ) (x : Attribute) : Type 0 where
   pub m : SetRequest
   pub is : r.answer ≡ answer.Message (kind.SetRequest m)
-  pub room : leastOutput ≤ length out
-  pub sound : soundDirectory (length tag.factory) (length tag.writable) tag.directory ≡ true
-  pub fine : setStatus tag s m r.lists.rows ≡ 0
+  pub room : least_output ≤ length out
+  pub sound : sound_directory (length tag.factory) (length tag.writable) tag.directory ≡ true
+  pub fine : set_status tag s m r.lists.rows ≡ 0
   pub before : List Attribute
   pub behind : List Attribute
   pub list : take m.count r.lists.rows ≡ before ++ (x ∷ behind)
@@ -142,13 +142,13 @@ pub record SetGives (tag : Tag) (s : List ℕ) (r : Reading) (out : List ℕ) (x
 -- a GET of status 0, of one id
 pub record GetsOne (tag : Tag) (s : List ℕ) (r : Reading) (out : List ℕ) (id : ℕ) (m : GetRequest) : Type 0 where
   pub is : r.answer ≡ answer.Message (kind.GetRequest m)
-  pub room : leastOutput ≤ length out
-  pub fine : getStatus tag s m ≡ 0
-  pub ids : idsFrom s m.ids m.count ≡ id ∷ []
+  pub room : least_output ≤ length out
+  pub fine : get_status tag s m ≡ 0
+  pub ids : ids_from s m.ids m.count ≡ id ∷ []
 
 -- the reply to a GET with one value v
-unfoldable pub oneValue : GetRequest → ℕ → List ℕ → Reply
-oneValue m id v =
+unfoldable pub one_value : GetRequest → ℕ → List ℕ → Reply
+one_value m id v =
     record {
       message = kind.GetResponse (record {
         fill = 0;
@@ -161,7 +161,7 @@ oneValue m id v =
         has_ret = false;
         ret = 0;
       });
-      attributes = record { id = id; kind = octetString; n = length v; start = 0 } ∷ [];
+      attributes = record { id = id; kind = octet_string; n = length v; start = 0 } ∷ [];
       lent = v;
     }
 
@@ -177,7 +177,7 @@ SetThenGet =
     (tag : Tag) (s out : List ℕ) (a : RequestAnswer) (w o : List ℕ) → Answered tag s out a w o → (r : Reading) → Reads s r
     → (x : Attribute) → SetGives tag s r out x
     → (t out' : List ℕ) (b : RequestAnswer) (w' o' : List ℕ) → Answered (afterwards tag w) t out' b w' o' → (q : Reading) → Reads t q
-    → (m : GetRequest) → GetsOne (afterwards tag w) t q out' x.id m → RepliesWith (oneValue m x.id (stringAt s x.start x.n)) b o'
+    → (m : GetRequest) → GetsOne (afterwards tag w) t q out' x.id m → RepliesWith (one_value m x.id (string_at s x.start x.n)) b o'
 
 -- ---- a refused call changes no octet of the writable area or of the output
 
@@ -216,18 +216,18 @@ Refuses none o = (o ≡ outcome.NoReply) ⊎ Replies o
 Refuses (number k) o = o ≡ outcome.Refused k
 Refuses (number_at k p) o = o ≡ outcome.RefusedAt k p
 
-unfoldable pub firstRefusal : List Refusal → Refusal
-firstRefusal [] = none
-firstRefusal (none ∷ rest) = firstRefusal rest
-firstRefusal (number k ∷ rest) = number k
-firstRefusal (number_at k p ∷ rest) = number_at k p
+unfoldable pub first_refusal : List Refusal → Refusal
+first_refusal [] = none
+first_refusal (none ∷ rest) = first_refusal rest
+first_refusal (number k ∷ rest) = number k
+first_refusal (number_at k p ∷ rest) = number_at k p
 
 -- the output is below 512 octets
-abbrev pub smallOutput : List ℕ → Refusal
-smallOutput out = pick (ltb (length out) leastOutput) (number 1) none
+abbrev pub small_output : List ℕ → Refusal
+small_output out = pick (ltb (length out) least_output) (number 1) none
 
-abbrev pub unsoundDirectory : Tag → Refusal
-unsoundDirectory tag = pick (soundDirectory (length tag.factory) (length tag.writable) tag.directory) none (number 26)
+abbrev pub unsound_directory : Tag → Refusal
+unsound_directory tag = pick (sound_directory (length tag.factory) (length tag.writable) tag.directory) none (number 26)
 
 unfoldable pub unreadable : ReadOutcome → Refusal
 unreadable (unread k p) = number_at k p
@@ -239,11 +239,11 @@ unserved (answer.Refused k p) = none
 unserved (answer.Message m) = pick (served m) none (number 24)
 
 -- the first of these that holds
-abbrev pub refusalOf : Tag → List ℕ → List ℕ → Answer → Refusal
-refusalOf tag s out a = firstRefusal (smallOutput out ∷ unsoundDirectory tag ∷ unreadable (readMessage s) ∷ unserved a ∷ [])
+abbrev pub refusal_of : Tag → List ℕ → List ℕ → Answer → Refusal
+refusal_of tag s out a = first_refusal (small_output out ∷ unsound_directory tag ∷ unreadable (read_message s) ∷ unserved a ∷ [])
 
 -- is the call's refusal, and there is no other: a request that passes them has its reply, or the silence of a SET with mode 0
 unfoldable pub RefusesOnly : Type 0
 RefusesOnly =
     (tag : Tag) (s out : List ℕ) (a : RequestAnswer) (w o : List ℕ) → Answered tag s out a w o → (r : Reading) → Reads s r
-    → Refuses (refusalOf tag s out r.answer) a.outcome
+    → Refuses (refusal_of tag s out r.answer) a.outcome

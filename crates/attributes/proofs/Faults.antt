@@ -13,12 +13,12 @@ use borrow.Author.Tests.{eq-eqb, ne_eqb, not-true, not-false}
 use Rattle.refusals.specs.Check.{Check, check, first_of}
 use Rattle.refusals.proofs.Tests.{by_cases}
 use Rattle.bits.specs.Bits.{field}
-use Rattle.apdu.specs.Values.{emptyRow}
+use Rattle.apdu.specs.Values.{empty_row}
 use Rattle.directory.specs.declared.Row.{Row}
 use Rattle.directory.specs.declared.Found.{Found}
 use Rattle.directory.specs.Directory.{known_in, row_of, finding}
-use Rattle.directory.proofs.Looking.{few-finding}
-use Rattle.attributes.specs.Serving.{Attribute, denied, getFault, getFaults, setFault, setFaults, idsFrom, set_row, setRows}
+use Rattle.directory.proofs.Looking.{few_finding}
+use Rattle.attributes.specs.Serving.{Attribute, denied, get_fault, get_faults, set_fault, set_faults, ids_from, set_row, set_rows}
 
 -- ---- checks in a row
 
@@ -29,45 +29,45 @@ first_found [] ys h = absurd (h refl)
 first_found (x ∷ xs) ys h = by_cases x.holds (λ t. rw t) (λ t. rw t (first_found xs ys (λ z. h (rw t z))))
 
 -- and where two checks do not hold, those behind them decide
-two-pass : (a b : ℕ) (p q : Bool) (ys : List Check) → first_of (check (suc a) p ∷ check (suc b) q ∷ []) ≡ 0 → first_of (check (suc a) p ∷ check (suc b) q ∷ ys) ≡ first_of ys
+two_pass : (a b : ℕ) (p q : Bool) (ys : List Check) → first_of (check (suc a) p ∷ check (suc b) q ∷ []) ≡ 0 → first_of (check (suc a) p ∷ check (suc b) q ∷ ys) ≡ first_of ys
 unfolding first_of
-two-pass a b true q ys h = absurd (omega arith)
-two-pass a b false true ys h = absurd (omega arith)
-two-pass a b false false ys h = refl
+two_pass a b true q ys h = absurd (omega arith)
+two_pass a b false true ys h = absurd (omega arith)
+two_pass a b false false ys h = refl
 
 -- ---- a row that was looked up
 
 module _ (rows : List Row) (few : length rows ≤ 32) (id : ℕ) {found : Found} (is : found ≡ finding rows id) where
   known_is : found.known ≡ known_in id rows
-  known_is = ap (λ (f : Found). f.known) (is ∙ few-finding rows few id)
+  known_is = ap (λ (f : Found). f.known) (is ∙ few_finding rows few id)
 
   pub row_is : found.row ≡ row_of id rows
-  row_is = ap (λ (f : Found). f.row) (is ∙ few-finding rows few id)
+  row_is = ap (λ (f : Found). f.row) (is ∙ few_finding rows few id)
 
   module _ (exact : Bool) where
-    pub id-unknown : not found.known ≡ true → 2 ≡ first_of (getFault rows exact id)
-    unfolding getFault first_of
-    id-unknown h = let k : known_in id rows ≡ false = sym known_is ∙ not-true found.known h in rw k
+    pub id_unknown : not found.known ≡ true → 2 ≡ first_of (get_fault rows exact id)
+    unfolding get_fault first_of
+    id_unknown h = let k : known_in id rows ≡ false = sym known_is ∙ not-true found.known h in rw k
 
     module _ (h : not found.known ≡ false) where
       here : known_in id rows ≡ true
       here = sym known_is ∙ not-false found.known h
 
-      pub id-free : not found.row.protected ≡ true → 0 ≡ first_of (getFault rows exact id)
-      unfolding getFault denied first_of
-      id-free p = let e : (row_of id rows).protected ≡ false = ap (λ (r : Row). r.protected) (sym row_is) ∙ not-true found.row.protected p in rw (here, e)
+      pub id_free : not found.row.protected ≡ true → 0 ≡ first_of (get_fault rows exact id)
+      unfolding get_fault denied first_of
+      id_free p = let e : (row_of id rows).protected ≡ false = ap (λ (r : Row). r.protected) (sym row_is) ∙ not-true found.row.protected p in rw (here, e)
 
       module _ (p : not found.row.protected ≡ false) where
         guarded : (row_of id rows).protected ≡ true
         guarded = ap (λ (r : Row). r.protected) (sym row_is) ∙ not-false found.row.protected p
 
-        pub id-exact : exact ≡ true → 0 ≡ first_of (getFault rows exact id)
-        unfolding getFault denied first_of
-        id-exact e = rw (here, guarded, e)
+        pub id_exact : exact ≡ true → 0 ≡ first_of (get_fault rows exact id)
+        unfolding get_fault denied first_of
+        id_exact e = rw (here, guarded, e)
 
-        pub id-denied : exact ≡ false → 1 ≡ first_of (getFault rows exact id)
-        unfolding getFault denied first_of
-        id-denied e = rw (here, guarded, e)
+        pub id_denied : exact ≡ false → 1 ≡ first_of (get_fault rows exact id)
+        unfolding get_fault denied first_of
+        id_denied e = rw (here, guarded, e)
 
 module _ (rows : List Row) (few : length rows ≤ 32) (exact : Bool) (a : Attribute) {found : Found} (is : found ≡ finding rows a.id) where
   abbrev row : Row
@@ -76,22 +76,22 @@ module _ (rows : List Row) (few : length rows ≤ 32) (exact : Bool) (a : Attrib
   same : found.row ≡ row
   same = row_is rows few a.id is
 
-  pub set-unknown : not found.known ≡ true → 2 ≡ first_of (setFault rows exact a)
-  unfolding setFault first_of
-  set-unknown h = let k : known_in a.id rows ≡ false = sym (known_is rows few a.id is) ∙ not-true found.known h in rw k
+  pub set_unknown : not found.known ≡ true → 2 ≡ first_of (set_fault rows exact a)
+  unfolding set_fault first_of
+  set_unknown h = let k : known_in a.id rows ≡ false = sym (known_is rows few a.id is) ∙ not-true found.known h in rw k
 
   module _ (h : not found.known ≡ false) where
     there : known_in a.id rows ≡ true
     there = sym (known_is rows few a.id is) ∙ not-false found.known h
 
-    pub set-kind : (a.kind ≡ 2 → ⊥) → 2 ≡ first_of (setFault rows exact a)
-    unfolding setFault first_of
-    set-kind k = rw (there, ne_eqb a.kind 2 k)
+    pub set_kind : (a.kind ≡ 2 → ⊥) → 2 ≡ first_of (set_fault rows exact a)
+    unfolding set_fault first_of
+    set_kind k = rw (there, ne_eqb a.kind 2 k)
 
     module _ (k : a.kind ≡ 2) where
-      pub set-length : (a.n ≡ found.row.length → ⊥) → 2 ≡ first_of (setFault rows exact a)
-      unfolding setFault first_of
-      set-length n =
+      pub set_length : (a.n ≡ found.row.length → ⊥) → 2 ≡ first_of (set_fault rows exact a)
+      unfolding set_fault first_of
+      set_length n =
           let e : eqb a.n row.length ≡ false = ne_eqb a.n row.length (λ z. n (z ∙ ap (λ (r : Row). r.length) (sym same))) in
           rw (there, eq-eqb a.kind 2 k, e)
 
@@ -99,9 +99,9 @@ module _ (rows : List Row) (few : length rows ≤ 32) (exact : Bool) (a : Attrib
         fine : eqb a.n row.length ≡ true
         fine = eq-eqb a.n row.length (n ∙ ap (λ (r : Row). r.length) same)
 
-        pub set-factory : not found.row.writable ≡ true → 1 ≡ first_of (setFault rows exact a)
-        unfolding setFault first_of
-        set-factory w =
+        pub set_factory : not found.row.writable ≡ true → 1 ≡ first_of (set_fault rows exact a)
+        unfolding set_fault first_of
+        set_factory w =
             let e : not row.writable ≡ true = ap (λ (r : Row). not r.writable) (sym same) ∙ w in
             let f : (denied exact row || not row.writable) ≡ true = ap (λ (b : Bool). denied exact row || b) e ∙ either (denied exact row) in
             rw (there, eq-eqb a.kind 2 k, fine, f)
@@ -114,8 +114,8 @@ module _ (rows : List Row) (few : length rows ≤ 32) (exact : Bool) (a : Attrib
           ours : row.writable ≡ true
           ours = ap (λ (r : Row). r.writable) (sym same) ∙ not-false found.row.writable w
 
-          pub set_free : not found.row.protected ≡ true → 0 ≡ first_of (setFault rows exact a)
-          unfolding setFault denied first_of
+          pub set_free : not found.row.protected ≡ true → 0 ≡ first_of (set_fault rows exact a)
+          unfolding set_fault denied first_of
           set_free p =
               let e : row.protected ≡ false = ap (λ (r : Row). r.protected) (sym same) ∙ not-true found.row.protected p in
               rw (there, eq-eqb a.kind 2 k, fine, ours, e)
@@ -124,92 +124,92 @@ module _ (rows : List Row) (few : length rows ≤ 32) (exact : Bool) (a : Attrib
             shut : row.protected ≡ true
             shut = ap (λ (r : Row). r.protected) (sym same) ∙ not-false found.row.protected p
 
-            pub set-exact : exact ≡ true → 0 ≡ first_of (setFault rows exact a)
-            unfolding setFault denied first_of
-            set-exact e = rw (there, eq-eqb a.kind 2 k, fine, ours, shut, e)
+            pub set_exact : exact ≡ true → 0 ≡ first_of (set_fault rows exact a)
+            unfolding set_fault denied first_of
+            set_exact e = rw (there, eq-eqb a.kind 2 k, fine, ours, shut, e)
 
-            pub set-denied : exact ≡ false → 1 ≡ first_of (setFault rows exact a)
-            unfolding setFault denied first_of
-            set-denied e = rw (there, eq-eqb a.kind 2 k, fine, ours, shut, e)
+            pub set_denied : exact ≡ false → 1 ≡ first_of (set_fault rows exact a)
+            unfolding set_fault denied first_of
+            set_denied e = rw (there, eq-eqb a.kind 2 k, fine, ours, shut, e)
 
 -- ---- the rows in turn
 
 module _ (s : List ℕ) (ids count : ℕ) where
-  pub ids_more : (i : ℕ) → i < count → idsFrom s (ids + 8 * i) (count - i) ≡ field s (ids + 8 * i + 1) 7 ∷ idsFrom s (ids + 8 * (i + 1)) (count - (i + 1))
-  unfolding idsFrom
+  pub ids_more : (i : ℕ) → i < count → ids_from s (ids + 8 * i) (count - i) ≡ field s (ids + 8 * i + 1) 7 ∷ ids_from s (ids + 8 * (i + 1)) (count - (i + 1))
+  unfolding ids_from
   ids_more i h =
       let a : count - i ≡ suc (count - (i + 1)) = omega arith in
       let b : ids + 8 * i + 8 ≡ ids + 8 * (i + 1) = omega arith in
-      ap (idsFrom s (ids + 8 * i)) a ∙ ap (λ (k : ℕ). field s (ids + 8 * i + 1) 7 ∷ idsFrom s k (count - (i + 1))) b
+      ap (ids_from s (ids + 8 * i)) a ∙ ap (λ (k : ℕ). field s (ids + 8 * i + 1) 7 ∷ ids_from s k (count - (i + 1))) b
 
-  pub ids-none : (i : ℕ) → i ≡ count → idsFrom s (ids + 8 * i) (count - i) ≡ []
-  unfolding idsFrom
-  ids-none i e = let z : count - i ≡ 0 = omega arith in ap (idsFrom s (ids + 8 * i)) z
+  pub ids_none : (i : ℕ) → i ≡ count → ids_from s (ids + 8 * i) (count - i) ≡ []
+  unfolding ids_from
+  ids_none i e = let z : count - i ≡ 0 = omega arith in ap (ids_from s (ids + 8 * i)) z
 
-  pub ids_all : idsFrom s ids count ≡ idsFrom s (ids + 8 * 0) (count - 0)
+  pub ids_all : ids_from s ids count ≡ ids_from s (ids + 8 * 0) (count - 0)
   ids_all =
       let a : ids ≡ ids + 8 * 0 = omega arith in
       let b : count ≡ count - 0 = omega arith in
-      ap (λ (k : ℕ). idsFrom s k count) a ∙ ap (idsFrom s (ids + 8 * 0)) b
+      ap (λ (k : ℕ). ids_from s k count) a ∙ ap (ids_from s (ids + 8 * 0)) b
 
   module _ (rows : List Row) (exact : Bool) where
     -- the status of the ids from the i-th on
-    abbrev pub idsLeft : ℕ → ℕ
-    idsLeft i = first_of (getFaults rows exact (idsFrom s (ids + 8 * i) (count - i)))
+    abbrev pub ids_left : ℕ → ℕ
+    ids_left i = first_of (get_faults rows exact (ids_from s (ids + 8 * i) (count - i)))
 
-    left-more : (i : ℕ) → i < count → idsLeft i ≡ first_of (getFault rows exact (field s (ids + 8 * i + 1) 7) ++ getFaults rows exact (idsFrom s (ids + 8 * (i + 1)) (count - (i + 1))))
-    unfolding getFaults
-    left-more i h = ap (λ (l : List ℕ). first_of (getFaults rows exact l)) (ids_more i h)
+    left_more : (i : ℕ) → i < count → ids_left i ≡ first_of (get_fault rows exact (field s (ids + 8 * i + 1) 7) ++ get_faults rows exact (ids_from s (ids + 8 * (i + 1)) (count - (i + 1))))
+    unfolding get_faults
+    left_more i h = ap (λ (l : List ℕ). first_of (get_faults rows exact l)) (ids_more i h)
 
-    module _ (i : ℕ) (h : i < count) {k : ℕ} (is : k ≡ first_of (getFault rows exact (field s (ids + 8 * i + 1) 7))) where
-      pub ids-fault : (k ≡ 0 → ⊥) → idsLeft i ≡ k
-      ids-fault n = left-more i h ∙ first_found (getFault rows exact (field s (ids + 8 * i + 1) 7)) _ (λ z. n (is ∙ z)) ∙ sym is
+    module _ (i : ℕ) (h : i < count) {k : ℕ} (is : k ≡ first_of (get_fault rows exact (field s (ids + 8 * i + 1) 7))) where
+      pub ids_fault : (k ≡ 0 → ⊥) → ids_left i ≡ k
+      ids_fault n = left_more i h ∙ first_found (get_fault rows exact (field s (ids + 8 * i + 1) 7)) _ (λ z. n (is ∙ z)) ∙ sym is
 
-      pub ids-pass : k ≡ 0 → idsLeft i ≡ idsLeft (i + 1)
-      ids-pass z = left-more i h ∙ (unfold getFault in two-pass 1 0 _ _ _ (sym (unfold getFault in is) ∙ z))
+      pub ids_pass : k ≡ 0 → ids_left i ≡ ids_left (i + 1)
+      ids_pass z = left_more i h ∙ (unfold get_fault in two_pass 1 0 _ _ _ (sym (unfold get_fault in is) ∙ z))
 
-    pub ids-end : (i : ℕ) → i ≡ count → idsLeft i ≡ 0
-    unfolding getFaults first_of
-    ids-end i e = ap (λ (l : List ℕ). first_of (getFaults rows exact l)) (ids-none i e)
+    pub ids_end : (i : ℕ) → i ≡ count → ids_left i ≡ 0
+    unfolding get_faults first_of
+    ids_end i e = ap (λ (l : List ℕ). first_of (get_faults rows exact l)) (ids_none i e)
 
 -- the attributes from the i-th on
 abbrev pub from : List Attribute → ℕ → ℕ → List Attribute
 from attributes count i = drop i (take count attributes)
 
-abbrev pub setsLeft : List Attribute → ℕ → List Row → Bool → ℕ → ℕ
-setsLeft attributes count rows exact i = first_of (setFaults rows exact (from attributes count i))
+abbrev pub sets_left : List Attribute → ℕ → List Row → Bool → ℕ → ℕ
+sets_left attributes count rows exact i = first_of (set_faults rows exact (from attributes count i))
 
 module _ (attributes : List Attribute) (count : ℕ) (long : count ≤ length attributes) where
-  from_more : (i : ℕ) → i < count → from attributes count i ≡ get_or attributes i emptyRow ∷ from attributes count (i + 1)
+  from_more : (i : ℕ) → i < count → from attributes count i ≡ get_or attributes i empty_row ∷ from attributes count (i + 1)
   from_more i h =
       let k = length-take-le count attributes long in
-      drop-cons (take count attributes) i emptyRow (omega arith) ∙ ap (λ (r : Attribute). r ∷ drop (suc i) (take count attributes)) (get_or-take count attributes i emptyRow h)
-      ∙ ap (λ (j : ℕ). get_or attributes i emptyRow ∷ drop j (take count attributes)) (sym (add-one i))
+      drop-cons (take count attributes) i empty_row (omega arith) ∙ ap (λ (r : Attribute). r ∷ drop (suc i) (take count attributes)) (get_or-take count attributes i empty_row h)
+      ∙ ap (λ (j : ℕ). get_or attributes i empty_row ∷ drop j (take count attributes)) (sym (add-one i))
 
-  from-none : (i : ℕ) → i ≡ count → from attributes count i ≡ []
-  from-none i e = ap (λ (j : ℕ). drop j (take count attributes)) (e ∙ sym (length-take-le count attributes long)) ∙ drop-length (take count attributes)
+  from_none : (i : ℕ) → i ≡ count → from attributes count i ≡ []
+  from_none i e = ap (λ (j : ℕ). drop j (take count attributes)) (e ∙ sym (length-take-le count attributes long)) ∙ drop-length (take count attributes)
 
   module _ (rows : List Row) (exact : Bool) where
-    sets_more : (i : ℕ) → i < count → setsLeft attributes count rows exact i ≡ first_of (setFault rows exact (get_or attributes i emptyRow) ++ setFaults rows exact (from attributes count (i + 1)))
-    unfolding setFaults
-    sets_more i h = ap (λ (l : List Attribute). first_of (setFaults rows exact l)) (from_more i h)
+    sets_more : (i : ℕ) → i < count → sets_left attributes count rows exact i ≡ first_of (set_fault rows exact (get_or attributes i empty_row) ++ set_faults rows exact (from attributes count (i + 1)))
+    unfolding set_faults
+    sets_more i h = ap (λ (l : List Attribute). first_of (set_faults rows exact l)) (from_more i h)
 
-    module _ (i : ℕ) (h : i < count) {k : ℕ} (is : k ≡ first_of (setFault rows exact (get_or attributes i emptyRow))) where
-      pub sets-fault : (k ≡ 0 → ⊥) → setsLeft attributes count rows exact i ≡ k
-      sets-fault n = sets_more i h ∙ first_found (setFault rows exact (get_or attributes i emptyRow)) _ (λ z. n (is ∙ z)) ∙ sym is
+    module _ (i : ℕ) (h : i < count) {k : ℕ} (is : k ≡ first_of (set_fault rows exact (get_or attributes i empty_row))) where
+      pub sets_fault : (k ≡ 0 → ⊥) → sets_left attributes count rows exact i ≡ k
+      sets_fault n = sets_more i h ∙ first_found (set_fault rows exact (get_or attributes i empty_row)) _ (λ z. n (is ∙ z)) ∙ sym is
 
-      pub sets-pass : k ≡ 0 → setsLeft attributes count rows exact i ≡ setsLeft attributes count rows exact (i + 1)
-      sets-pass z = sets_more i h ∙ (unfold setFault in two-pass 1 0 _ _ _ (sym (unfold setFault in is) ∙ z))
+      pub sets_pass : k ≡ 0 → sets_left attributes count rows exact i ≡ sets_left attributes count rows exact (i + 1)
+      sets_pass z = sets_more i h ∙ (unfold set_fault in two_pass 1 0 _ _ _ (sym (unfold set_fault in is) ∙ z))
 
-    pub sets_end : (i : ℕ) → i ≡ count → setsLeft attributes count rows exact i ≡ 0
-    unfolding setFaults first_of
-    sets_end i e = ap (λ (l : List Attribute). first_of (setFaults rows exact l)) (from-none i e)
+    pub sets_end : (i : ℕ) → i ≡ count → sets_left attributes count rows exact i ≡ 0
+    unfolding set_faults first_of
+    sets_end i e = ap (λ (l : List Attribute). first_of (set_faults rows exact l)) (from_none i e)
 
   module _ (s : List ℕ) (rows : List Row) where
-    pub rows_more : (i : ℕ) (w : List ℕ) → i < count → setRows s rows (from attributes count i) w ≡ setRows s rows (from attributes count (i + 1)) (set_row s rows (get_or attributes i emptyRow) w)
-    unfolding setRows
-    rows_more i w h = ap (λ (l : List Attribute). setRows s rows l w) (from_more i h)
+    pub rows_more : (i : ℕ) (w : List ℕ) → i < count → set_rows s rows (from attributes count i) w ≡ set_rows s rows (from attributes count (i + 1)) (set_row s rows (get_or attributes i empty_row) w)
+    unfolding set_rows
+    rows_more i w h = ap (λ (l : List Attribute). set_rows s rows l w) (from_more i h)
 
-    pub rows_end : (i : ℕ) (w : List ℕ) → i ≡ count → setRows s rows (from attributes count i) w ≡ w
-    unfolding setRows
-    rows_end i w e = ap (λ (l : List Attribute). setRows s rows l w) (from-none i e)
+    pub rows_end : (i : ℕ) (w : List ℕ) → i ≡ count → set_rows s rows (from attributes count i) w ≡ w
+    unfolding set_rows
+    rows_end i w e = ap (λ (l : List Attribute). set_rows s rows l w) (from_none i e)

@@ -10,46 +10,46 @@ use lib.ListN.{length, get_or, take, drop, set, length-set, length-append, lengt
 use lib.Seq.{drop-cons, length-take-le, take-suc-set, take_at, take_all}
 use borrow.Author.Tests.{le-leb}
 use Rattle.refusals.specs.Check.{pick}
-use Rattle.bits.specs.Bits.{Octets, field, readField}
-use Rattle.bits.specs.Strings.{isInside, stringAt, copyFits, copyString}
-use Rattle.bits.proofs.Laws.{field-octet, field_lt, below-drop, below-take}
+use Rattle.bits.specs.Bits.{Octets, field, read_field}
+use Rattle.bits.specs.Strings.{is_inside, string_at, copy_fits, copy_string}
+use Rattle.bits.proofs.Laws.{field_octet, field_lt, below_drop, below_take}
 use Rattle.apdu.specs.declared.records.Message.TheVariants as kind
 use Rattle.apdu.specs.Sound.{sound}
 use Rattle.directory.specs.declared.Row.{Row}
 use Rattle.directory.specs.declared.Found.{Found}
-use Rattle.directory.specs.Directory.{areaOctets, rowSound, soundDirectory, row_of, finding}
-use Rattle.directory.proofs.Looking.{sound-short, sound-row, inside-area, row-short}
-use Rattle.attributes.specs.Serving.{Attribute, idsFrom, rows_of, value_of, valuesIn, attributesAt}
+use Rattle.directory.specs.Directory.{area_octets, row_sound, sound_directory, row_of, finding}
+use Rattle.directory.proofs.Looking.{sound_short, sound_row, inside_area, row_short}
+use Rattle.attributes.specs.Serving.{Attribute, ids_from, rows_of, value_of, values_in, attributes_at}
 use Rattle.attributes.specs.Inside.{Gathers}
-use Rattle.attributes.proofs.Faults.{row_is, ids_more, ids-none, ids_all}
+use Rattle.attributes.proofs.Faults.{row_is, ids_more, ids_none, ids_all}
 
 -- ---- an id
 
-pub seven_is : (s : List ℕ) (at : ℕ) {v : ℕ} → v ≡ readField s at 7 → (v ≡ field s at 7) × (v < 128)
-unfolding readField
+pub seven_is : (s : List ℕ) (at : ℕ) {v : ℕ} → v ≡ read_field s at 7 → (v ≡ field s at 7) × (v < 128)
+unfolding read_field
 seven_is s at e = (e, rw e (field_lt s at 7))
 
 -- ---- a part of an area
 
-string-octets : (s : List ℕ) (i n : ℕ) → Octets s → i + n ≤ length s → stringAt s (8 * i) n ≡ take n (drop i s)
-unfolding stringAt
-string-octets s i zero o h = refl
-string-octets s i (suc n) o h =
+string_octets_law : (s : List ℕ) (i n : ℕ) → Octets s → i + n ≤ length s → string_at s (8 * i) n ≡ take n (drop i s)
+unfolding string_at
+string_octets_law s i zero o h = refl
+string_octets_law s i (suc n) o h =
     let e : 8 * i + 8 ≡ 8 * suc i = omega arith in
-    ap (λ (x : ℕ). x ∷ stringAt s (8 * i + 8) n) (field-octet s i (o.each i))
-    ∙ ap (λ (k : ℕ). get_or s i 0 ∷ stringAt s k n) e
-    ∙ ap (λ (l : List ℕ). get_or s i 0 ∷ l) (string-octets s (suc i) n o (omega arith))
+    ap (λ (x : ℕ). x ∷ string_at s (8 * i + 8) n) (field_octet s i (o.each i))
+    ∙ ap (λ (k : ℕ). get_or s i 0 ∷ string_at s k n) e
+    ∙ ap (λ (l : List ℕ). get_or s i 0 ∷ l) (string_octets_law s (suc i) n o (omega arith))
     ∙ ap (take (suc n)) (sym (drop-cons s i 0 (omega arith)))
 
 module _ (area out : List ℕ) (start n at : ℕ) (o : Octets area) (inside : start + n ≤ length area) (room : at + n ≤ length out) where
-  pub part-copied : copyString (take (start + n - start) (drop start area)) 0 n out at ≡ take at out ++ (take n (drop start area) ++ drop (at + n) out)
-  unfolding copyString copyFits isInside
-  part-copied =
+  pub part_copied : copy_string (take (start + n - start) (drop start area)) 0 n out at ≡ take at out ++ (take n (drop start area) ++ drop (at + n) out)
+  unfolding copy_string copy_fits is_inside
+  part_copied =
       let k : start + n - start ≡ n = omega arith in
       let l = take n (drop start area) in
       let m : length l ≡ n = length-take-le n (drop start area) (omega (arith, length-drop start area)) in
       let a : n ≤ length l = omega arith in
-      let e : stringAt l 0 n ≡ l = string-octets l 0 n (below-take n (below-drop start o)) (omega arith) ∙ take_all n l (omega arith) in
+      let e : string_at l 0 n ≡ l = string_octets_law l 0 n (below_take n (below_drop start o)) (omega arith) ∙ take_all n l (omega arith) in
       let f : 0 + 8 * n ≤ 8 * length l = omega arith in
       rw (k, le-leb (0 + 8 * n) (8 * length l) f, le-leb (at + n) (length out) room, e)
 
@@ -57,17 +57,17 @@ module _ (area out : List ℕ) (start n at : ℕ) (o : Octets area) (inside : st
 
 module _ (f w : List ℕ) (row : Row) where
   module _ (out : List ℕ) (at : ℕ) {r : List ℕ} where
-    pub put-ours : r ≡ take at out ++ (take row.length (drop row.start w) ++ drop (at + row.length) out) → row.writable ≡ true → r ≡ take at out ++ (value_of f w row ++ drop (at + row.length) out)
+    pub put_ours : r ≡ take at out ++ (take row.length (drop row.start w) ++ drop (at + row.length) out) → row.writable ≡ true → r ≡ take at out ++ (value_of f w row ++ drop (at + row.length) out)
     unfolding value_of
-    put-ours h e = rw e h
+    put_ours h e = rw e h
 
-    pub put-factory : r ≡ take at out ++ (take row.length (drop row.start f) ++ drop (at + row.length) out) → row.writable ≡ false → r ≡ take at out ++ (value_of f w row ++ drop (at + row.length) out)
+    pub put_factory : r ≡ take at out ++ (take row.length (drop row.start f) ++ drop (at + row.length) out) → row.writable ≡ false → r ≡ take at out ++ (value_of f w row ++ drop (at + row.length) out)
     unfolding value_of
-    put-factory h e = rw e h
+    put_factory h e = rw e h
 
-  pub length-value : row.start + row.length ≤ areaOctets (length f) (length w) row → length (value_of f w row) ≡ row.length
+  pub length_value : row.start + row.length ≤ area_octets (length f) (length w) row → length (value_of f w row) ≡ row.length
   unfolding value_of
-  length-value h = by row.writable h
+  length_value h = by row.writable h
     where
       by : (b : Bool) → row.start + row.length ≤ pick b (length w) (length f) → length (take row.length (drop row.start (pick b w f))) ≡ row.length
       by true h = length-take-le row.length (drop row.start w) (omega (arith, length-drop row.start w))
@@ -77,51 +77,51 @@ module _ (f w : List ℕ) (row : Row) where
 
 -- the rows whose ids are still to come
 abbrev pub rest : List ℕ → ℕ → ℕ → List Row → ℕ → List Row
-rest s ids count rows i = rows_of rows (idsFrom s (ids + 8 * i) (count - i))
+rest s ids count rows i = rows_of rows (ids_from s (ids + 8 * i) (count - i))
 
 -- the first i values are gathered
 pub record Gathered (s : List ℕ) (ids count : ℕ) (rows : List Row) (f w : List ℕ) (octets : List ℕ) (attributes : List Attribute) (at i : ℕ) : Type 0 where
   pub near : at ≤ 127 * i
   pub long : length octets ≡ 2032
   pub wide : length attributes ≡ 32
-  pub values : take at octets ++ valuesIn f w (rest s ids count rows i) ≡ valuesIn f w (rest s ids count rows 0)
-  pub places : take i attributes ++ attributesAt at (rest s ids count rows i) ≡ attributesAt 0 (rest s ids count rows 0)
+  pub values : take at octets ++ values_in f w (rest s ids count rows i) ≡ values_in f w (rest s ids count rows 0)
+  pub places : take i attributes ++ attributes_at at (rest s ids count rows i) ≡ attributes_at 0 (rest s ids count rows 0)
 
 module _ (s : List ℕ) (ids count : ℕ) (rows : List Row) (f w : List ℕ) where
   pub gathered_none : (octets : List ℕ) (attributes : List Attribute) → length octets ≡ 2032 → length attributes ≡ 32 → Gathered s ids count rows f w octets attributes 0 0
   gathered_none octets attributes a b = record { near = omega arith; long = a; wide = b; values = refl; places = refl }
 
-  module _ (sound : soundDirectory (length f) (length w) rows ≡ true) (few : count ≤ 16) {octets : List ℕ} {attributes : List Attribute} {at : ℕ} (i : ℕ) (more : i < count)
+  module _ (sound : sound_directory (length f) (length w) rows ≡ true) (few : count ≤ 16) {octets : List ℕ} {attributes : List Attribute} {at : ℕ} (i : ℕ) (more : i < count)
       (g : Gathered s ids count rows f w octets attributes at i) {found : Found} (is : found ≡ finding rows (field s (ids + 8 * i + 1) 7)) where
     abbrev this : Row
     this = found.row
 
-    this-is : this ≡ row_of (field s (ids + 8 * i + 1) 7) rows
-    this-is = row_is rows (sound-short (length f) (length w) rows sound) (field s (ids + 8 * i + 1) 7) is
+    this_is : this ≡ row_of (field s (ids + 8 * i + 1) 7) rows
+    this_is = row_is rows (sound_short (length f) (length w) rows sound) (field s (ids + 8 * i + 1) 7) is
 
-    this-sound : rowSound (length f) (length w) this ≡ true
-    this-sound = ap (rowSound (length f) (length w)) this-is ∙ sound-row (length f) (length w) rows sound (field s (ids + 8 * i + 1) 7)
+    this_sound : row_sound (length f) (length w) this ≡ true
+    this_sound = ap (row_sound (length f) (length w)) this_is ∙ sound_row (length f) (length w) rows sound (field s (ids + 8 * i + 1) 7)
 
-    pub this-inside : this.start + this.length ≤ areaOctets (length f) (length w) this
-    this-inside = inside-area (length f) (length w) this this-sound
+    pub this_inside : this.start + this.length ≤ area_octets (length f) (length w) this
+    this_inside = inside_area (length f) (length w) this this_sound
 
-    pub this-short : this.length ≤ 127
-    this-short = row-short (length f) (length w) this this-sound
+    pub this_short : this.length ≤ 127
+    this_short = row_short (length f) (length w) this this_sound
 
-    pub this-room : at + this.length ≤ 2032
-    this-room = omega (arith, this-short, g.near)
+    pub this_room : at + this.length ≤ 2032
+    this_room = omega (arith, this_short, g.near)
 
     rest_more : rest s ids count rows i ≡ this ∷ rest s ids count rows (i + 1)
     unfolding rows_of
-    rest_more = ap (rows_of rows) (ids_more s ids count i more) ∙ ap (λ (r : Row). r ∷ rest s ids count rows (i + 1)) (sym this-is)
+    rest_more = ap (rows_of rows) (ids_more s ids count i more) ∙ ap (λ (r : Row). r ∷ rest s ids count rows (i + 1)) (sym this_is)
 
-    pub gathered-more : {octets' : List ℕ} → octets' ≡ take at octets ++ (value_of f w this ++ drop (at + this.length) octets)
+    pub gathered_more : {octets' : List ℕ} → octets' ≡ take at octets ++ (value_of f w this ++ drop (at + this.length) octets)
         → Gathered s ids count rows f w octets' (set attributes i (record { id = this.id; kind = 2; n = this.length; start = 8 * at })) (at + this.length) (i + 1)
-    unfolding valuesIn attributesAt
-    gathered-more {octets'} e =
+    unfolding values_in attributes_at
+    gathered_more {octets'} e =
         let v = value_of f w this in
-        let n : length v ≡ this.length = length-value f w this this-inside in
-        let p : length (take at octets) ≡ at = length-take-le at octets (omega (arith, this-room, g.long)) in
+        let n : length v ≡ this.length = length_value f w this this_inside in
+        let p : length (take at octets) ≡ at = length-take-le at octets (omega (arith, this_room, g.long)) in
         let m : length (take at octets ++ v) ≡ at + this.length = omega (arith, length-append (take at octets) v) in
         let d = drop (at + this.length) octets in
         let x : Attribute = record { id = this.id; kind = 2; n = this.length; start = 8 * at } in
@@ -130,31 +130,31 @@ module _ (s : List ℕ) (ids count : ℕ) (rows : List Row) (f w : List ℕ) whe
         let j : take (i + 1) (set attributes i x) ≡ take i attributes ++ (x ∷ []) =
         ap (λ (k : ℕ). take k (set attributes i x)) (add-one i) ∙ take-suc-set attributes i x (omega (arith, g.wide)) in
         record {
-          near = omega (arith, this-short, g.near);
-          long = ap length e ∙ omega (arith, length-append (take at octets) (v ++ d), length-append v d, length-drop (at + this.length) octets, this-room, g.long);
+          near = omega (arith, this_short, g.near);
+          long = ap length e ∙ omega (arith, length-append (take at octets) (v ++ d), length-append v d, length-drop (at + this.length) octets, this_room, g.long);
           wide = length-set attributes i x ∙ g.wide;
           values =
-              ap (λ (l : List ℕ). l ++ valuesIn f w (rest s ids count rows (i + 1))) front
-              ∙ append_assoc (take at octets) v (valuesIn f w (rest s ids count rows (i + 1)))
-              ∙ ap (λ (l : List Row). take at octets ++ valuesIn f w l) (sym rest_more) ∙ g.values;
+              ap (λ (l : List ℕ). l ++ values_in f w (rest s ids count rows (i + 1))) front
+              ∙ append_assoc (take at octets) v (values_in f w (rest s ids count rows (i + 1)))
+              ∙ ap (λ (l : List Row). take at octets ++ values_in f w l) (sym rest_more) ∙ g.values;
           places =
-              ap (λ (l : List Attribute). l ++ attributesAt (at + this.length) (rest s ids count rows (i + 1))) j
-              ∙ append_assoc (take i attributes) (x ∷ []) (attributesAt (at + this.length) (rest s ids count rows (i + 1)))
-              ∙ ap (λ (l : List Row). take i attributes ++ attributesAt at l) (sym rest_more) ∙ g.places;
+              ap (λ (l : List Attribute). l ++ attributes_at (at + this.length) (rest s ids count rows (i + 1))) j
+              ∙ append_assoc (take i attributes) (x ∷ []) (attributes_at (at + this.length) (rest s ids count rows (i + 1)))
+              ∙ ap (λ (l : List Row). take i attributes ++ attributes_at at l) (sym rest_more) ∙ g.places;
         }
 
-  pub gathered-all : {octets : List ℕ} {attributes : List Attribute} {at : ℕ} (i : ℕ) → i ≡ count → Gathered s ids count rows f w octets attributes at i
+  pub gathered_all : {octets : List ℕ} {attributes : List Attribute} {at : ℕ} (i : ℕ) → i ≡ count → Gathered s ids count rows f w octets attributes at i
       → Gathers s ids count rows f w (record { octets = octets; attributes = attributes })
-  unfolding valuesIn attributesAt rows_of
-  gathered-all {octets} {attributes} {at} i e g =
-      let z : rest s ids count rows i ≡ [] = ap (rows_of rows) (ids-none s ids count i e) in
-      let a : rest s ids count rows 0 ≡ rows_of rows (idsFrom s ids count) = ap (rows_of rows) (sym (ids_all s ids count)) in
+  unfolding values_in attributes_at rows_of
+  gathered_all {octets} {attributes} {at} i e g =
+      let z : rest s ids count rows i ≡ [] = ap (rows_of rows) (ids_none s ids count i e) in
+      let a : rest s ids count rows 0 ≡ rows_of rows (ids_from s ids count) = ap (rows_of rows) (sym (ids_all s ids count)) in
       record {
         size = at;
         long = g.long;
         values =
-            sym (append-nil (take at octets)) ∙ ap (λ (l : List Row). take at octets ++ valuesIn f w l) (sym z) ∙ g.values ∙ ap (valuesIn f w) a;
+            sym (append-nil (take at octets)) ∙ ap (λ (l : List Row). take at octets ++ values_in f w l) (sym z) ∙ g.values ∙ ap (values_in f w) a;
         attributes =
-            ap (λ (k : ℕ). take k attributes) (sym e) ∙ sym (append-nil (take i attributes)) ∙ ap (λ (l : List Row). take i attributes ++ attributesAt at l) (sym z)
-            ∙ g.places ∙ ap (attributesAt 0) a;
+            ap (λ (k : ℕ). take k attributes) (sym e) ∙ sym (append-nil (take i attributes)) ∙ ap (λ (l : List Row). take i attributes ++ attributes_at at l) (sym z)
+            ∙ g.places ∙ ap (attributes_at 0) a;
       }

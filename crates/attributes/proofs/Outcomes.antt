@@ -18,12 +18,12 @@ use Rattle.apdu_reading.specs.declared.front.Answer.TheVariants as answer
 use Rattle.apdu_reading.specs.declared.front.Reading.{Reading}
 use Rattle.apdu_reading.specs.Answers.{Reads}
 use Rattle.directory.specs.declared.Row.{Row}
-use Rattle.directory.specs.Directory.{soundDirectory}
+use Rattle.directory.specs.Directory.{sound_directory}
 use Rattle.directory.specs.Gathered.{gathered, list_of}
-use Rattle.directory.proofs.Looking.{gathered-few, gathered-many, unsound}
+use Rattle.directory.proofs.Looking.{gathered_few, gathered_many, unsound}
 use Rattle.attributes.specs.declared.answers.RequestOutcome.TheVariants as told
 use Rattle.attributes.specs.declared.answers.RequestAnswer.{RequestAnswer}
-use Rattle.attributes.specs.Serving.{Attribute, Tag, exact, idsFrom, getFaults, getStatus, setFaults, setStatus, setRows, getReply, getRefusal, setReply, echoReply, effect, Effect, sent, tooLong, toldOf, getting, setting, carried, served, byReading, requested, Answered}
+use Rattle.attributes.specs.Serving.{Attribute, Tag, exact, ids_from, get_faults, get_status, set_faults, set_status, set_rows, get_reply, get_refusal, set_reply, echo_reply, effect, Effect, sent, too_long, told_of, getting, setting, carried, served, by_reading, requested, Answered}
 use Rattle.attributes.specs.Inside.{tag_of, Sends, unserved}
 use Rattle.attributes.proofs.Sending.{long_kept}
 
@@ -33,141 +33,141 @@ module _ (eid : ℕ) (credentials : List ℕ) (rows : List Row) (s : List ℕ) (
   abbrev tag : Tag
   tag = tag_of eid credentials rows [] []
 
-  pub get-eid : (m.eid ≡ eid → ⊥) → 2 ≡ getStatus tag s m
-  unfolding getStatus first_of
-  get-eid h = rw (ne_eqb m.eid eid h)
+  pub get_eid : (m.eid ≡ eid → ⊥) → 2 ≡ get_status tag s m
+  unfolding get_status first_of
+  get_eid h = rw (ne_eqb m.eid eid h)
 
   module _ (e : m.eid ≡ eid) where
-    pub get-no-ids : not m.has_ids ≡ true → 2 ≡ getStatus tag s m
-    unfolding getStatus first_of
-    get-no-ids h = rw (eq-eqb m.eid eid e, h)
+    pub get_no_ids : not m.has_ids ≡ true → 2 ≡ get_status tag s m
+    unfolding get_status first_of
+    get_no_ids h = rw (eq-eqb m.eid eid e, h)
 
     pub get_rows : not m.has_ids ≡ false → {sure : Bool} → sure ≡ exact s credentials m.has_credentials m.credentials m.credentials_length
-        → {r : ℕ} → r ≡ first_of (getFaults rows sure (idsFrom s m.ids m.count)) → r ≡ getStatus tag s m
-    unfolding getStatus first_of
+        → {r : ℕ} → r ≡ first_of (get_faults rows sure (ids_from s m.ids m.count)) → r ≡ get_status tag s m
+    unfolding get_status first_of
     get_rows h x k = k ∙ rw (eq-eqb m.eid eid e, h, x)
 
 module _ (eid : ℕ) (credentials : List ℕ) (rows : List Row) (s : List ℕ) (m : SetRequest) (attributes : List Attribute) where
-  abbrev set-tag : Tag
-  set-tag = tag_of eid credentials rows [] []
+  abbrev set_tag : Tag
+  set_tag = tag_of eid credentials rows [] []
 
-  pub set-eid : (m.eid ≡ eid → ⊥) → 2 ≡ setStatus set-tag s m attributes
-  unfolding setStatus first_of
-  set-eid h = rw (ne_eqb m.eid eid h)
+  pub set_eid : (m.eid ≡ eid → ⊥) → 2 ≡ set_status set_tag s m attributes
+  unfolding set_status first_of
+  set_eid h = rw (ne_eqb m.eid eid h)
 
-  pub set-each : m.eid ≡ eid → {sure : Bool} → sure ≡ exact s credentials m.has_credentials m.credentials m.credentials_length
-      → {r : ℕ} → r ≡ first_of (setFaults rows sure (take m.count attributes)) → r ≡ setStatus set-tag s m attributes
-  unfolding setStatus first_of
-  set-each e x k = k ∙ rw (eq-eqb m.eid eid e, x)
+  pub set_each : m.eid ≡ eid → {sure : Bool} → sure ≡ exact s credentials m.has_credentials m.credentials m.credentials_length
+      → {r : ℕ} → r ≡ first_of (set_faults rows sure (take m.count attributes)) → r ≡ set_status set_tag s m attributes
+  unfolding set_status first_of
+  set_each e x k = k ∙ rw (eq-eqb m.eid eid e, x)
 
 -- ---- GET
 
 module _ (eid : ℕ) (credentials : List ℕ) (rows : List Row) (f w : List ℕ) (s : List ℕ) (m : GetRequest) (out : List ℕ) {status : ℕ}
-    (is : status ≡ getStatus (tag_of eid credentials rows [] []) s m) where
+    (is : status ≡ get_status (tag_of eid credentials rows [] []) s m) where
   abbrev whole : Tag
   whole = tag_of eid credentials rows f w
 
-  status-is : getStatus whole s m ≡ status
-  status-is = sym (is ∙ same)
+  status_is_law : get_status whole s m ≡ status
+  status_is_law = sym (is ∙ same)
     where
-      same : getStatus (tag_of eid credentials rows [] []) s m ≡ getStatus (tag_of eid credentials rows f w) s m
-      same = unfold getStatus in refl
+      same : get_status (tag_of eid credentials rows [] []) s m ≡ get_status (tag_of eid credentials rows f w) s m
+      same = unfold get_status in refl
 
   abbrev values : Effect
-  values = sent (getReply whole s m) w out
+  values = sent (get_reply whole s m) w out
 
-  pub get_refused : (status ≡ 0 → ⊥) → {r : RequestAnswer} {out' : List ℕ} → Sends (getRefusal s m status) out r out' → effect (toldOf r.outcome) w out' ≡ getting whole s m out
+  pub get_refused : (status ≡ 0 → ⊥) → {r : RequestAnswer} {out' : List ℕ} → Sends (get_refusal s m status) out r out' → effect (told_of r.outcome) w out' ≡ getting whole s m out
   unfolding getting
-  get_refused n h = h.so w ∙ rw (status-is, ne_eqb status 0 n)
+  get_refused n h = h.so w ∙ rw (status_is_law, ne_eqb status 0 n)
 
-  module _ (z : status ≡ 0) {a : RequestAnswer} {o : List ℕ} (h : Sends (getReply (tag_of 0 [] rows f w) s m) out a o) where
-    said : effect (toldOf a.outcome) w o ≡ values
-    unfolding getReply
+  module _ (z : status ≡ 0) {a : RequestAnswer} {o : List ℕ} (h : Sends (get_reply (tag_of 0 [] rows f w) s m) out a o) where
+    said : effect (told_of a.outcome) w o ≡ values
+    unfolding get_reply
     said = h.so w
 
-    pub get-values : tooLong (toldOf a.outcome) ≡ false → effect (toldOf a.outcome) w o ≡ getting whole s m out
+    pub get_values : too_long (told_of a.outcome) ≡ false → effect (told_of a.outcome) w o ≡ getting whole s m out
     unfolding getting
-    get-values t =
-        let k : tooLong values.outcome ≡ false = ap (λ (e : Effect). tooLong e.outcome) (sym said) ∙ t in
-        said ∙ rw (status-is, eq-eqb status 0 z, k)
+    get_values t =
+        let k : too_long values.outcome ≡ false = ap (λ (e : Effect). too_long e.outcome) (sym said) ∙ t in
+        said ∙ rw (status_is_law, eq-eqb status 0 z, k)
 
-    pub get-long : tooLong (toldOf a.outcome) ≡ true → {r : RequestAnswer} {out' : List ℕ} → Sends (getRefusal s m 3) o r out' → effect (toldOf r.outcome) w out' ≡ getting whole s m out
+    pub get_long : too_long (told_of a.outcome) ≡ true → {r : RequestAnswer} {out' : List ℕ} → Sends (get_refusal s m 3) o r out' → effect (told_of r.outcome) w out' ≡ getting whole s m out
     unfolding getting
-    get-long t {r} {out'} g =
-        let k : tooLong values.outcome ≡ true = ap (λ (e : Effect). tooLong e.outcome) (sym said) ∙ t in
-        let e : o ≡ out = ap (λ (e : Effect). e.output) said ∙ long_kept (getReply whole s m) w out k in
-        g.so w ∙ rw (status-is, eq-eqb status 0 z, k, e)
+    get_long t {r} {out'} g =
+        let k : too_long values.outcome ≡ true = ap (λ (e : Effect). too_long e.outcome) (sym said) ∙ t in
+        let e : o ≡ out = ap (λ (e : Effect). e.output) said ∙ long_kept (get_reply whole s m) w out k in
+        g.so w ∙ rw (status_is_law, eq-eqb status 0 z, k, e)
 
 -- ---- SET
 
 module _ (eid : ℕ) (credentials : List ℕ) (rows : List Row) (w : List ℕ) (s : List ℕ) (m : SetRequest) (attributes : List Attribute) (out : List ℕ) {status : ℕ}
-    (is : status ≡ setStatus (tag_of eid credentials rows [] []) s m attributes) {w' : List ℕ}
-    (written : w' ≡ pick (eqb status 0) (setRows s rows (take m.count attributes) w) w) where
+    (is : status ≡ set_status (tag_of eid credentials rows [] []) s m attributes) {w' : List ℕ}
+    (written : w' ≡ pick (eqb status 0) (set_rows s rows (take m.count attributes) w) w) where
   abbrev own : Tag
   own = tag_of eid credentials rows [] w
 
-  set-status-is : setStatus own s m attributes ≡ status
-  set-status-is = sym (is ∙ same)
+  set_status_is : set_status own s m attributes ≡ status
+  set_status_is = sym (is ∙ same)
     where
-      same : setStatus (tag_of eid credentials rows [] []) s m attributes ≡ setStatus (tag_of eid credentials rows [] w) s m attributes
-      same = unfold setStatus in refl
+      same : set_status (tag_of eid credentials rows [] []) s m attributes ≡ set_status (tag_of eid credentials rows [] w) s m attributes
+      same = unfold set_status in refl
 
-  pub set_silent : not m.mode ≡ true → effect (toldOf told.NoReply) w' out ≡ setting own s m attributes out
-  unfolding setting toldOf
-  set_silent h = rw (set-status-is, not-true m.mode h, written)
+  pub set_silent : not m.mode ≡ true → effect (told_of told.NoReply) w' out ≡ setting own s m attributes out
+  unfolding setting told_of
+  set_silent h = rw (set_status_is, not-true m.mode h, written)
 
-  pub set-replied : not m.mode ≡ false → {r : RequestAnswer} {out' : List ℕ} → Sends (setReply s m status) out r out' → effect (toldOf r.outcome) w' out' ≡ setting own s m attributes out
+  pub set_replied : not m.mode ≡ false → {r : RequestAnswer} {out' : List ℕ} → Sends (set_reply s m status) out r out' → effect (told_of r.outcome) w' out' ≡ setting own s m attributes out
   unfolding setting
-  set-replied h {r} {out'} g = g.so w' ∙ rw (set-status-is, not-false m.mode h, written)
+  set_replied h {r} {out'} g = g.so w' ∙ rw (set_status_is, not-false m.mode h, written)
 
 -- ---- a request that is served
 
 module _ (eid : ℕ) (credentials : List ℕ) (rows : List Row) (f w s : List ℕ) (attributes : List Attribute) (out : List ℕ) {m : Message} (r : RequestAnswer) {out' : List ℕ} where
-  pub carried-echo : {x : Request} → m ≡ kind.ActionRequest x → Sends (echoReply s x) out r out' → effect (toldOf r.outcome) w out' ≡ carried (tag_of eid credentials rows f w) s m attributes out
+  pub carried_echo : {x : Request} → m ≡ kind.ActionRequest x → Sends (echo_reply s x) out r out' → effect (told_of r.outcome) w out' ≡ carried (tag_of eid credentials rows f w) s m attributes out
   unfolding carried
-  carried-echo e h = rw e (h.so w)
+  carried_echo e h = rw e (h.so w)
 
-  pub carried-set : {x : SetRequest} {w' : List ℕ} → m ≡ kind.SetRequest x → effect (toldOf r.outcome) w' out' ≡ setting (tag_of eid credentials rows [] w) s x attributes out
-      → effect (toldOf r.outcome) w' out' ≡ carried (tag_of eid credentials rows f w) s m attributes out
-  unfolding carried setting setStatus
-  carried-set e h = rw e h
+  pub carried_set : {x : SetRequest} {w' : List ℕ} → m ≡ kind.SetRequest x → effect (told_of r.outcome) w' out' ≡ setting (tag_of eid credentials rows [] w) s x attributes out
+      → effect (told_of r.outcome) w' out' ≡ carried (tag_of eid credentials rows f w) s m attributes out
+  unfolding carried setting set_status
+  carried_set e h = rw e h
 
-  pub carried-get : {x : GetRequest} → m ≡ kind.GetRequest x → effect (toldOf r.outcome) w out' ≡ getting (tag_of eid credentials rows f w) s x out → effect (toldOf r.outcome) w out' ≡ carried (tag_of eid credentials rows f w) s m attributes out
+  pub carried_get : {x : GetRequest} → m ≡ kind.GetRequest x → effect (told_of r.outcome) w out' ≡ getting (tag_of eid credentials rows f w) s x out → effect (told_of r.outcome) w out' ≡ carried (tag_of eid credentials rows f w) s m attributes out
   unfolding carried
-  carried-get e h = rw e h
+  carried_get e h = rw e h
 
 -- ---- the call
 
 module _ (tag : Tag) (s out : List ℕ) (r : Reading) (h : Reads s r) where
-  answered : (a : RequestAnswer) {w out' : List ℕ} → effect (toldOf a.outcome) w out' ≡ requested tag s r out → Answered tag s out a w out'
+  answered : (a : RequestAnswer) {w out' : List ℕ} → effect (told_of a.outcome) w out' ≡ requested tag s r out → Answered tag s out a w out'
   answered a e = record { reading = r; reads = h; is = e }
 
-  pub answered-1 : length out < 512 → Answered tag s out (record { outcome = told.Refused 1 }) tag.writable out
-  unfolding requested first_of toldOf
-  answered-1 n = answered _ (rw (lt-ltb (length out) 512 n))
+  pub answered_1 : length out < 512 → Answered tag s out (record { outcome = told.Refused 1 }) tag.writable out
+  unfolding requested first_of told_of
+  answered_1 n = answered _ (rw (lt-ltb (length out) 512 n))
 
-  module _ (room : 512 ≤ length out) {b : Bool} (is : b ≡ soundDirectory (length tag.factory) (length tag.writable) tag.directory) where
-    pub answered-26 : not b ≡ true → Answered tag s out (record { outcome = told.Refused 26 }) tag.writable out
-    unfolding requested first_of toldOf
-    answered-26 n = answered _ (rw (le-ltb (length out) 512 room, ← is, n))
+  module _ (room : 512 ≤ length out) {b : Bool} (is : b ≡ sound_directory (length tag.factory) (length tag.writable) tag.directory) where
+    pub answered_26 : not b ≡ true → Answered tag s out (record { outcome = told.Refused 26 }) tag.writable out
+    unfolding requested first_of told_of
+    answered_26 n = answered _ (rw (le-ltb (length out) 512 room, ← is, n))
 
     module _ (fine : not b ≡ false) where
-      passed : requested tag s r out ≡ byReading tag s r.answer r.lists.rows out
+      passed : requested tag s r out ≡ by_reading tag s r.answer r.lists.rows out
       unfolding requested first_of
       passed = rw (le-ltb (length out) 512 room, ← is, fine)
 
-      pub answered-read : {k p : ℕ} → r.answer ≡ answer.Refused k p → Answered tag s out (record { outcome = told.RefusedAt k p }) tag.writable out
-      unfolding byReading toldOf
-      answered-read e = answered _ (rw (passed, e))
+      pub answered_read : {k p : ℕ} → r.answer ≡ answer.Refused k p → Answered tag s out (record { outcome = told.RefusedAt k p }) tag.writable out
+      unfolding by_reading told_of
+      answered_read e = answered _ (rw (passed, e))
 
       module _ {m : Message} (e : r.answer ≡ answer.Message m) {v : Bool} (k : v ≡ served m) where
-        pub answered-24 : not v ≡ true → {a : RequestAnswer} → a ≡ unserved → Answered tag s out a tag.writable out
-        unfolding byReading toldOf
-        answered-24 n u = answered _ (rw (passed, e, ← k, not-true v n, u))
+        pub answered_24 : not v ≡ true → {a : RequestAnswer} → a ≡ unserved → Answered tag s out a tag.writable out
+        unfolding by_reading told_of
+        answered_24 n u = answered _ (rw (passed, e, ← k, not-true v n, u))
 
-        pub answered-served : not v ≡ false → (a : RequestAnswer) {w out' : List ℕ} → effect (toldOf a.outcome) w out' ≡ carried tag s m r.lists.rows out → Answered tag s out a w out'
-        unfolding byReading
-        answered-served n a g = answered a (rw (passed, e, ← k, not-false v n) g)
+        pub answered_served : not v ≡ false → (a : RequestAnswer) {w out' : List ℕ} → effect (told_of a.outcome) w out' ≡ carried tag s m r.lists.rows out → Answered tag s out a w out'
+        unfolding by_reading
+        answered_served n a g = answered a (rw (passed, e, ← k, not-false v n) g)
 
 -- ---- the directory that was gathered
 
@@ -175,22 +175,22 @@ module _ (eid : ℕ) (credentials : List ℕ) (rows : List Row) (f w s out : Lis
   abbrev lent : List Row → Tag
   lent l = tag_of eid credentials l f w
 
-  gathered-requested : requested (lent (list_of (gathered rows))) s r out ≡ requested (lent rows) s r out
+  gathered_requested : requested (lent (list_of (gathered rows))) s r out ≡ requested (lent rows) s r out
   unfolding requested first_of
-  gathered-requested =
+  gathered_requested =
       by_cases (leb (length rows) 32)
-      (λ t. ap (λ (l : List Row). requested (lent l) s r out) (gathered-few rows (leb-true (length rows) 32 t)))
+      (λ t. ap (λ (l : List Row). requested (lent l) s r out) (gathered_few rows (leb-true (length rows) 32 t)))
       (λ t.
       let h = leb-false (length rows) 32 t in
-      let u : soundDirectory (length f) (length w) rows ≡ false = unsound (length f) (length w) rows 0 h in
-      let v : soundDirectory (length f) (length w) (list_of (gathered rows)) ≡ false = gathered-many (length f) (length w) rows h ∙ u in
+      let u : sound_directory (length f) (length w) rows ≡ false = unsound (length f) (length w) rows 0 h in
+      let v : sound_directory (length f) (length w) (list_of (gathered rows)) ≡ false = gathered_many (length f) (length w) rows h ∙ u in
       by_cases (ltb (length out) 512) (λ k. rw k) (λ k. rw (k, u, v)))
 
-pub gathered-answered : (eid : ℕ) (credentials : List ℕ) (rows : List Row) (f w s out : List ℕ) (a : RequestAnswer) (w' out' : List ℕ)
+pub gathered_answered : (eid : ℕ) (credentials : List ℕ) (rows : List Row) (f w s out : List ℕ) (a : RequestAnswer) (w' out' : List ℕ)
     → Answered (tag_of eid credentials (list_of (gathered rows)) f w) s out a w' out' → Answered (tag_of eid credentials rows f w) s out a w' out'
-gathered-answered eid credentials rows f w s out a w' out' h =
+gathered_answered eid credentials rows f w s out a w' out' h =
     record {
       reading = h.reading;
       reads = h.reads;
-      is = h.is ∙ gathered-requested eid credentials rows f w s out h.reading;
+      is = h.is ∙ gathered_requested eid credentials rows f w s out h.reading;
     }

@@ -9,7 +9,7 @@ use Rattle.directory.specs.declared.Row.{Row}
 use Rattle.attributes.specs.declared.answers.RequestOutcome.TheVariants as told
 use Rattle.attributes.specs.declared.answers.RequestAnswer.{RequestAnswer}
 use Rattle.attributes.specs.declared.values.Values.{Values}
-use Rattle.attributes.specs.Serving.{Tag, Reply, effect, sent, toldOf, idsFrom, rows_of, valuesIn, attributesAt}
+use Rattle.attributes.specs.Serving.{Tag, Reply, effect, sent, told_of, ids_from, rows_of, values_in, attributes_at}
 
 abbrev pub tag_of : ℕ → List ℕ → List Row → List ℕ → List ℕ → Tag
 tag_of eid credentials rows factory writable = record { eid = eid; credentials = credentials; directory = rows; factory = factory; writable = writable }
@@ -19,7 +19,7 @@ unserved = record { outcome = told.Refused 24 }
 
 -- the answer and the output are those of sending this reply, whatever the writable area
 pub record Sends (reply : Reply) (out : List ℕ) (r : RequestAnswer) (out' : List ℕ) : Type 0 where
-  pub so : (w : List ℕ) → effect (toldOf r.outcome) w out' ≡ sent reply w out
+  pub so : (w : List ℕ) → effect (told_of r.outcome) w out' ≡ sent reply w out
 
 -- the ids of a GET are few, and their places are small numbers
 pub record GetFits (m : GetRequest) : Type 0 where
@@ -49,5 +49,5 @@ pub record Fits (m : Message) : Type 0 where
 pub record Gathers (s : List ℕ) (ids count : ℕ) (rows : List Row) (factory writable : List ℕ) (r : Values) : Type 0 where
   pub size : ℕ
   pub long : length r.octets ≡ 2032
-  pub values : take size r.octets ≡ valuesIn factory writable (rows_of rows (idsFrom s ids count))
-  pub attributes : take count r.attributes ≡ attributesAt 0 (rows_of rows (idsFrom s ids count))
+  pub values : take size r.octets ≡ values_in factory writable (rows_of rows (ids_from s ids count))
+  pub attributes : take count r.attributes ≡ attributes_at 0 (rows_of rows (ids_from s ids count))

@@ -1,6 +1,6 @@
 // What a request call answers, and how a reply is sent.
 ghost use Rattle.std.specs.Prelude.{◌≡◌};
-ghost use Rattle.attributes.specs.Serving.{isEcho, served, tooLong, toldOf};
+ghost use Rattle.attributes.specs.Serving.{is_echo, served, too_long, told_of};
 ghost use Rattle.attributes.specs.Inside.{Sends};
 
 use apdu::{Message, Request, no_entries};
@@ -24,7 +24,7 @@ pub struct RequestAnswer {
 const ECHO: u64 = 15;
 
 fn is_echo(m: Request) -> bool
-    ensures { result ≡ isEcho m }
+    ensures { result ≡ is_echo m }
 {
     if m.service != ECHO {
         return false;
@@ -88,7 +88,7 @@ pub(crate) fn send(
 
 // Whether a reply was too long to be written.
 pub(crate) fn too_long(a: RequestAnswer) -> bool
-    ensures { result ≡ tooLong (toldOf a.outcome) }
+    ensures { result ≡ too_long (told_of a.outcome) }
 {
     let outcome = a.outcome;
     match outcome {

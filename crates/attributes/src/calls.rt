@@ -1,8 +1,8 @@
 // The request call over the directory by value.
 ghost use Rattle.std.specs.Prelude.{◌≡◌, true, length};
-ghost use Rattle.directory.specs.Directory.{soundDirectory};
+ghost use Rattle.directory.specs.Directory.{sound_directory};
 ghost use Rattle.directory.specs.Gathered.{list_of};
-ghost use Rattle.attributes.specs.Serving.{Answered, carried, echoReply, effect, toldOf};
+ghost use Rattle.attributes.specs.Serving.{Answered, carried, echo_reply, effect, told_of};
 ghost use Rattle.attributes.specs.Inside.{tag_of, Fits, Sends, unserved};
 
 use crate::answers::{RequestAnswer, RequestOutcome, is_served, send};
@@ -25,7 +25,7 @@ fn not_served() -> RequestAnswer
 
 // An ECHO that is served: the same string.
 fn echo(s: &[u8], m: Request, out: &mut [u8]) -> RequestAnswer
-    ensures { Sends (echoReply s.now m) out.old result out.new }
+    ensures { Sends (echo_reply s.now m) out.old result out.new }
 {
     let reply = ActionResponse {
         fill: 0,
@@ -55,8 +55,8 @@ fn carry_out(
     writable: &mut [u8],
     out: &mut [u8],
 ) -> RequestAnswer
-    requires { Fits m × (soundDirectory (length factory.now) (length writable.old) (list_of d) ≡ true) }
-    ensures { effect (toldOf result.outcome) writable.new out.new ≡ carried (tag_of eid credentials.now (list_of d) factory.now writable.old) s.now m attributes out.old }
+    requires { Fits m × (sound_directory (length factory.now) (length writable.old) (list_of d) ≡ true) }
+    ensures { effect (told_of result.outcome) writable.new out.new ≡ carried (tag_of eid credentials.now (list_of d) factory.now writable.old) s.now m attributes out.old }
 {
     match m {
         Message::ActionRequest(x) => echo(s, x, out),

@@ -2,9 +2,9 @@
 ghost use Rattle.std.specs.Prelude.{◌≡◌, true, [], ◌+◌, ◌*◌, ◌≤◌, length};
 ghost use Rattle.refusals.specs.Check.{first_of};
 ghost use Rattle.bits.specs.Bits.{field};
-ghost use Rattle.directory.specs.Directory.{soundDirectory};
+ghost use Rattle.directory.specs.Directory.{sound_directory};
 ghost use Rattle.directory.specs.Gathered.{list_of};
-ghost use Rattle.attributes.specs.Serving.{idsFrom, getFault, getFaults, getStatus, getReply, getRefusal, getting, effect, toldOf};
+ghost use Rattle.attributes.specs.Serving.{ids_from, get_fault, get_faults, get_status, get_reply, get_refusal, getting, effect, told_of};
 ghost use Rattle.attributes.specs.Inside.{tag_of, GetFits, Sends};
 
 use crate::answers::{RequestAnswer, send, too_long};
@@ -22,7 +22,7 @@ const COMPLEXITY_LIMITATION: u8 = 3;
 // The status of the id at a bit place, or 0.
 fn id_status(s: &[u8], at: usize, d: Directory, exact: bool) -> u8
     requires { (at ≤ 4096) × (length (list_of d) ≤ 32) }
-    ensures { result ≡ first_of (getFault (list_of d) exact (field s.now (at + 1) 7)) }
+    ensures { result ≡ first_of (get_fault (list_of d) exact (field s.now (at + 1) 7)) }
 {
     let found = row_at(s, at, d);
     if !found.known {
@@ -41,7 +41,7 @@ fn id_status(s: &[u8], at: usize, d: Directory, exact: bool) -> u8
 // The status of the first faulty one of `count` ids from bit place `ids` on, or 0.
 fn ids_status(s: &[u8], ids: usize, count: usize, d: Directory, exact: bool) -> u8
     requires { (ids + 8 * count ≤ 4096) × (length (list_of d) ≤ 32) }
-    ensures { result ≡ first_of (getFaults (list_of d) exact (idsFrom s.now ids count)) }
+    ensures { result ≡ first_of (get_faults (list_of d) exact (ids_from s.now ids count)) }
 {
     let mut i: usize = 0;
     while i < count {
@@ -57,7 +57,7 @@ fn ids_status(s: &[u8], ids: usize, count: usize, d: Directory, exact: bool) -> 
 // The return status, or 0.
 fn get_status(s: &[u8], m: GetRequest, eid: u64, credentials: &[u8], d: Directory) -> u8
     requires { GetFits m × (length (list_of d) ≤ 32) }
-    ensures { result ≡ getStatus (tag_of eid credentials.now (list_of d) [] []) s.now m }
+    ensures { result ≡ get_status (tag_of eid credentials.now (list_of d) [] []) s.now m }
 {
     if m.eid != eid {
         return ARGUMENT_ERROR;
@@ -77,7 +77,7 @@ fn get_status(s: &[u8], m: GetRequest, eid: u64, credentials: &[u8], d: Director
 
 // A reply with a status and no list.
 fn send_status(s: &[u8], m: GetRequest, status: u8, out: &mut [u8]) -> RequestAnswer
-    ensures { Sends (getRefusal s.now m status) out.old result out.new }
+    ensures { Sends (get_refusal s.now m status) out.old result out.new }
 {
     let reply = GetResponse {
         fill: 0,
@@ -102,8 +102,8 @@ fn send_values(
     writable: &[u8],
     out: &mut [u8],
 ) -> RequestAnswer
-    requires { GetFits m × (soundDirectory (length factory.now) (length writable.now) (list_of d) ≡ true) }
-    ensures { Sends (getReply (tag_of 0 [] (list_of d) factory.now writable.now) s.now m) out.old result out.new }
+    requires { GetFits m × (sound_directory (length factory.now) (length writable.now) (list_of d) ≡ true) }
+    ensures { Sends (get_reply (tag_of 0 [] (list_of d) factory.now writable.now) s.now m) out.old result out.new }
 {
     let values = gather_values(s, m.ids, m.count as usize, d, factory, writable);
     let attributes = values.attributes;
@@ -133,8 +133,8 @@ pub(crate) fn get(
     writable: &[u8],
     out: &mut [u8],
 ) -> RequestAnswer
-    requires { GetFits m × (soundDirectory (length factory.now) (length writable.now) (list_of d) ≡ true) }
-    ensures { effect (toldOf result.outcome) writable.now out.new ≡ getting (tag_of eid credentials.now (list_of d) factory.now writable.now) s.now m out.old }
+    requires { GetFits m × (sound_directory (length factory.now) (length writable.now) (list_of d) ≡ true) }
+    ensures { effect (told_of result.outcome) writable.now out.new ≡ getting (tag_of eid credentials.now (list_of d) factory.now writable.now) s.now m out.old }
 {
     let status = get_status(s, m, eid, credentials, d);
     if status != 0 {

@@ -2,7 +2,7 @@
 ghost use Rattle.std.specs.Prelude.{◌≡◌, [], ◌≤◌, length, take, eqb};
 ghost use Rattle.refusals.specs.Check.{first_of, pick};
 ghost use Rattle.directory.specs.Gathered.{list_of};
-ghost use Rattle.attributes.specs.Serving.{setFault, setFaults, setStatus, set_row, setRows, setReply, setting, effect, toldOf};
+ghost use Rattle.attributes.specs.Serving.{set_fault, set_faults, set_status, set_row, set_rows, set_reply, setting, effect, told_of};
 ghost use Rattle.attributes.specs.Inside.{tag_of, SetFits, Sends};
 
 use crate::answers::{RequestAnswer, RequestOutcome, send};
@@ -19,7 +19,7 @@ const OCTET_STRING: u8 = 2;
 // The status of an attribute, or 0.
 fn attribute_status(a: apdu::Row, d: Directory, exact: bool) -> u8
     requires { length (list_of d) ≤ 32 }
-    ensures { result ≡ first_of (setFault (list_of d) exact a) }
+    ensures { result ≡ first_of (set_fault (list_of d) exact a) }
 {
     let found = find(d, a.id as u16);
     if !found.known {
@@ -47,7 +47,7 @@ fn attribute_status(a: apdu::Row, d: Directory, exact: bool) -> u8
 // The status of the first faulty one of the first `count` attributes, or 0.
 fn attributes_status(attributes: [apdu::Row; 32], count: usize, d: Directory, exact: bool) -> u8
     requires { (count ≤ 32) × (length (list_of d) ≤ 32) }
-    ensures { result ≡ first_of (setFaults (list_of d) exact (take count attributes)) }
+    ensures { result ≡ first_of (set_faults (list_of d) exact (take count attributes)) }
 {
     let mut i: usize = 0;
     while i < count {
@@ -71,7 +71,7 @@ fn set_status(
     d: Directory,
 ) -> u8
     requires { SetFits m × (length (list_of d) ≤ 32) }
-    ensures { result ≡ setStatus (tag_of eid credentials.now (list_of d) [] []) s.now m attributes }
+    ensures { result ≡ set_status (tag_of eid credentials.now (list_of d) [] []) s.now m attributes }
 {
     if m.eid != eid {
         return ARGUMENT_ERROR;
@@ -99,7 +99,7 @@ fn set_row(s: &[u8], a: apdu::Row, d: Directory, writable: &mut [u8])
 // Writes the values of the first `count` attributes in turn.
 fn set_rows(s: &[u8], attributes: [apdu::Row; 32], count: usize, d: Directory, writable: &mut [u8])
     requires { (count ≤ 32) × (length (list_of d) ≤ 32) }
-    ensures { writable.new ≡ setRows s.now (list_of d) (take count attributes) writable.old }
+    ensures { writable.new ≡ set_rows s.now (list_of d) (take count attributes) writable.old }
 {
     let mut i: usize = 0;
     while i < count {
@@ -119,7 +119,7 @@ fn set_all(
     writable: &mut [u8],
 )
     requires { (count ≤ 32) × (length (list_of d) ≤ 32) }
-    ensures { writable.new ≡ pick (eqb status 0) (setRows s.now (list_of d) (take count attributes) writable.old) writable.old }
+    ensures { writable.new ≡ pick (eqb status 0) (set_rows s.now (list_of d) (take count attributes) writable.old) writable.old }
 {
     if status == 0 {
         set_rows(s, attributes, count, d, writable);
@@ -127,7 +127,7 @@ fn set_all(
 }
 
 fn send_status(s: &[u8], m: SetRequest, status: u8, out: &mut [u8]) -> RequestAnswer
-    ensures { Sends (setReply s.now m status) out.old result out.new }
+    ensures { Sends (set_reply s.now m status) out.old result out.new }
 {
     let reply = Response {
         fill: 0,
@@ -152,7 +152,7 @@ pub(crate) fn set(
     out: &mut [u8],
 ) -> RequestAnswer
     requires { SetFits m × (length (list_of d) ≤ 32) }
-    ensures { effect (toldOf result.outcome) writable.new out.new ≡ setting (tag_of eid credentials.now (list_of d) [] writable.old) s.now m attributes out.old }
+    ensures { effect (told_of result.outcome) writable.new out.new ≡ setting (tag_of eid credentials.now (list_of d) [] writable.old) s.now m attributes out.old }
 {
     let status = set_status(s, m, attributes, eid, credentials, d);
     set_all(s, status, attributes, m.count as usize, d, writable);

@@ -1,7 +1,7 @@
 // The values of rows, gathered for a reply.
 ghost use Rattle.std.specs.Prelude.{◌≡◌, true, ◌++◌, ◌+◌, ◌*◌, ◌≤◌, length, take, drop};
 ghost use Rattle.bits.specs.Bits.{field};
-ghost use Rattle.directory.specs.Directory.{areaOctets, soundDirectory, finding};
+ghost use Rattle.directory.specs.Directory.{area_octets, sound_directory, finding};
 ghost use Rattle.directory.specs.Gathered.{list_of};
 ghost use Rattle.attributes.specs.Serving.{value_of};
 ghost use Rattle.attributes.specs.Inside.{Gathers};
@@ -25,7 +25,7 @@ fn put_part(area: &[u8], start: usize, n: usize, out: &mut [u8], at: usize)
 
 // The value of a row, to `out` from `at` on.
 fn put_value(row: Row, factory: &[u8], writable: &[u8], out: &mut [u8], at: usize)
-    requires { (row.start + row.length ≤ areaOctets (length factory.now) (length writable.now) row) × (at + row.length ≤ length out.old) }
+    requires { (row.start + row.length ≤ area_octets (length factory.now) (length writable.now) row) × (at + row.length ≤ length out.old) }
     ensures { out.new ≡ take at out.old ++ (value_of factory.now writable.now row ++ drop (at + row.length) out.old) }
 {
     let start = row.start;
@@ -54,7 +54,7 @@ pub(crate) fn gather_values(
     factory: &[u8],
     writable: &[u8],
 ) -> Values
-    requires { (count ≤ 16) × (ids + 8 * count ≤ 4096) × (soundDirectory (length factory.now) (length writable.now) (list_of d) ≡ true) }
+    requires { (count ≤ 16) × (ids + 8 * count ≤ 4096) × (sound_directory (length factory.now) (length writable.now) (list_of d) ≡ true) }
     ensures { Gathers s.now ids count (list_of d) factory.now writable.now result }
 {
     let mut octets: [u8; 2032] = [0; 2032];

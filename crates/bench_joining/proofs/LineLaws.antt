@@ -9,34 +9,34 @@ use lib.Seq.{take_at}
 use lib.Dec.{leb}
 use Rattle.refusals.specs.Check.{pick, Answer, refused, accepted}
 use Rattle.slots.specs.declared.Table.{Table}
-use Rattle.slots.specs.Slots.{heldFor}
+use Rattle.slots.specs.Slots.{held_for}
 use Rattle.reassembly.specs.declared.FragmentAnswer.{FragmentAnswer}
-use Rattle.bench_lines.specs.Numerals.{octetsOf}
-use Rattle.bench_lines.specs.Line.{Fields, lsduText, hasForm, fields_of, readLine, lineAnswer, lsduAfter}
+use Rattle.bench_lines.specs.Numerals.{octets_of}
+use Rattle.bench_lines.specs.Line.{Fields, lsdu_text, has_form, fields_of, read_line, line_answer, lsdu_after}
 use Rattle.bench_lines.specs.declared.LineRead.{LineRead}
 use Rattle.bench_lines.specs.declared.LineRead.TheVariants as read
-use Rattle.bench_lines.proofs.Spelling.{length-octets}
+use Rattle.bench_lines.proofs.Spelling.{length_octets}
 use Rattle.bench_joining.specs.declared.Columns.{Columns}
 use Rattle.bench_joining.specs.declared.Taken.{Taken}
 use Rattle.bench_joining.specs.declared.joining.Headed.{Headed}
-use Rattle.bench_joining.specs.Columns.{columnsOf, refusedWith}
-use Rattle.bench_joining.specs.Joined.{headedBy, columnsAfter, LsduJoined, LineJoined, lsduOf, LineTaken}
+use Rattle.bench_joining.specs.Columns.{columns_of, refused_with}
+use Rattle.bench_joining.specs.Joined.{headed_by, columns_after, LsduJoined, LineJoined, lsdu_of, LineTaken}
 
 -- ---- an LSDU
 
 -- what the header tells, and the octets held for its pair, make the columns
-pub shown-is : (answer : FragmentAnswer) (lid : ℕ) (lsdu : List ℕ) (after : Table) (header : Headed) (held : ℕ) (r : Columns) → header ≡ headedBy lsdu
-    → held ≡ heldFor after lid header.number → r ≡ columnsOf answer held header.payload → r ≡ columnsAfter answer lid lsdu after
-unfolding headedBy columnsAfter
-shown-is answer lid lsdu after header held r h e c =
-    c ∙ λ i. columnsOf answer ((e ∙ ap (λ (x : Headed). heldFor after lid x.number) h) i) (h i).payload
+pub shown_is : (answer : FragmentAnswer) (lid : ℕ) (lsdu : List ℕ) (after : Table) (header : Headed) (held : ℕ) (r : Columns) → header ≡ headed_by lsdu
+    → held ≡ held_for after lid header.number → r ≡ columns_of answer held header.payload → r ≡ columns_after answer lid lsdu after
+unfolding headed_by columns_after
+shown_is answer lid lsdu after header held r h e c =
+    c ∙ λ i. columns_of answer ((e ∙ ap (λ (x : Headed). held_for after lid x.number) h) i) (h i).payload
 
 -- ---- a line
 
 -- what is read of a line are its fields
-read-fields : (line : List ℕ) (room : ℕ) (f : Fields) → accepted f ≡ readLine line room → f ≡ fields_of line
-unfolding readLine
-read-fields line room f e = go (hasForm line) (leb (fields_of line).octets room) e
+read_fields : (line : List ℕ) (room : ℕ) (f : Fields) → accepted f ≡ read_line line room → f ≡ fields_of line
+unfolding read_line
+read_fields line room f e = go (has_form line) (leb (fields_of line).octets room) e
   where
     go : (a b : Bool) → accepted f ≡ pick a (pick b (accepted (fields_of line)) (refused 22)) (refused 0) → f ≡ fields_of line
     go true true e = cc
@@ -44,37 +44,37 @@ read-fields line room f e = go (hasForm line) (leb (fields_of line).octets room)
     go false b e = let z : ◌≡◌ {A = ℕ} 0 1 = cc in absurd (omega arith)
 
 -- the front of the buffer is the LSDU
-front-is : (line : List ℕ) (room : ℕ) (f : Fields) (lsdu : List ℕ) → accepted f ≡ readLine line room → take f.octets (octetsOf (lsduText line) ++ drop f.octets lsdu) ≡ lsduOf line
-unfolding lsduOf fields_of
-front-is line room f lsdu e =
-    let n : f.octets ≡ length (lsduText line) / 2 = ap (λ (x : Fields). x.octets) (read-fields line room f e) in
-    take_at (octetsOf (lsduText line)) (drop f.octets lsdu) f.octets (length-octets (lsduText line) ∙ sym n)
+front_is : (line : List ℕ) (room : ℕ) (f : Fields) (lsdu : List ℕ) → accepted f ≡ read_line line room → take f.octets (octets_of (lsdu_text line) ++ drop f.octets lsdu) ≡ lsdu_of line
+unfolding lsdu_of fields_of
+front_is line room f lsdu e =
+    let n : f.octets ≡ length (lsdu_text line) / 2 = ap (λ (x : Fields). x.octets) (read_fields line room f e) in
+    take_at (octets_of (lsdu_text line)) (drop f.octets lsdu) f.octets (length_octets (lsdu_text line) ∙ sym n)
 
 module _ (line : List ℕ) (table : Table) (lsdu store output lsdu' store' output' : List ℕ) (r : Taken) (a : LineRead)
-    (got : (lineAnswer a ≡ readLine line (length lsdu)) × (lsdu' ≡ lsduAfter (lineAnswer a) line lsdu)) where
-  pub line-joined : (l t n : ℕ) (part : List ℕ) → a ≡ read.Fields l t n → part ≡ take n lsdu' → LsduJoined l t part table store output r store' output'
+    (got : (line_answer a ≡ read_line line (length lsdu)) × (lsdu' ≡ lsdu_after (line_answer a) line lsdu)) where
+  pub line_joined : (l t n : ℕ) (part : List ℕ) → a ≡ read.Fields l t n → part ≡ take n lsdu' → LsduJoined l t part table store output r store' output'
       → LineTaken line table lsdu store output r lsdu' store' output'
-  unfolding lineAnswer lsduAfter LineJoined
-  line-joined l t n part e p j =
+  unfolding line_answer lsdu_after LineJoined
+  line_joined l t n part e p j =
       let f : Fields = record { lid = l; tick = t; octets = n } in
-      let is : accepted f ≡ readLine line (length lsdu) = sym (ap lineAnswer e) ∙ got.0 in
-      let buffer : lsdu' ≡ octetsOf (lsduText line) ++ drop n lsdu = got.1 ∙ ap (λ (x : LineRead). lsduAfter (lineAnswer x) line lsdu) e in
-      let whole : part ≡ lsduOf line = p ∙ ap (take n) buffer ∙ front-is line (length lsdu) f lsdu is in
+      let is : accepted f ≡ read_line line (length lsdu) = sym (ap line_answer e) ∙ got.0 in
+      let buffer : lsdu' ≡ octets_of (lsdu_text line) ++ drop n lsdu = got.1 ∙ ap (λ (x : LineRead). lsdu_after (line_answer x) line lsdu) e in
+      let whole : part ≡ lsdu_of line = p ∙ ap (take n) buffer ∙ front_is line (length lsdu) f lsdu is in
       record {
         joined =
-            subst (λ (x : Answer Fields). LineJoined x (lsduOf line) table store output r store' output') is
+            subst (λ (x : Answer Fields). LineJoined x (lsdu_of line) table store output r store' output') is
             (subst (λ (x : List ℕ). LsduJoined l t x table store output r store' output') whole j);
-        lsdu-is = got.1 ∙ ap (λ (x : Answer Fields). lsduAfter x line lsdu) got.0;
+        lsdu_is = got.1 ∙ ap (λ (x : Answer Fields). lsdu_after x line lsdu) got.0;
       }
 
-  pub line_refused : (k : ℕ) → a ≡ read.Refused k → r.table ≡ table → r.columns ≡ refusedWith k 0 → store' ≡ store → output' ≡ output
+  pub line_refused : (k : ℕ) → a ≡ read.Refused k → r.table ≡ table → r.columns ≡ refused_with k 0 → store' ≡ store → output' ≡ output
       → LineTaken line table lsdu store output r lsdu' store' output'
-  unfolding lineAnswer LineJoined
+  unfolding line_answer LineJoined
   line_refused k e t c s o =
-      let is : refused k ≡ readLine line (length lsdu) = sym (ap lineAnswer e) ∙ got.0 in
+      let is : refused k ≡ read_line line (length lsdu) = sym (ap line_answer e) ∙ got.0 in
       record {
         joined =
-            subst (λ (x : Answer Fields). LineJoined x (lsduOf line) table store output r store' output') is
-            (record { table_is = t; columns-are = c; store_is = s; output-is = o });
-        lsdu-is = got.1 ∙ ap (λ (x : Answer Fields). lsduAfter x line lsdu) got.0;
+            subst (λ (x : Answer Fields). LineJoined x (lsdu_of line) table store output r store' output') is
+            (record { table_is = t; columns_are = c; store_is = s; output_is = o });
+        lsdu_is = got.1 ∙ ap (λ (x : Answer Fields). lsdu_after x line lsdu) got.0;
       }

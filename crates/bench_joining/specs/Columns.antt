@@ -9,17 +9,17 @@ use Rattle.reassembly.specs.declared.FragmentAnswer.TheVariants as answer
 use Rattle.bench_joining.specs.declared.Columns.{Columns}
 
 -- a refusal adds nothing to the totals
-unfoldable pub refusedWith : (number octets : ℕ) → Columns
-refusedWith number octets = record { answer = shown.Refused number; octets = octets; dropped = 0; accepted = 0; delivered = 0 }
+unfoldable pub refused_with : (number octets : ℕ) → Columns
+refused_with number octets = record { answer = shown.Refused number; octets = octets; dropped = 0; accepted = 0; delivered = 0 }
 
 -- 0 octets for refusals 0 to 6, else those held for the pair
-unfoldable pub refusedColumns : (number held : ℕ) → Columns
-refusedColumns number held = pick (ltb number 7) (refusedWith number 0) (refusedWith number held)
+unfoldable pub refused_columns : (number held : ℕ) → Columns
+refused_columns number held = pick (ltb number 7) (refused_with number 0) (refused_with number held)
 
 -- the columns of an answer, where so many octets are held for the pair after the call, and the fragment has so many of payload
-unfoldable pub columnsOf : FragmentAnswer → (held payload : ℕ) → Columns
-columnsOf (answer.Held octets dropped) held payload =
+unfoldable pub columns_of : FragmentAnswer → (held payload : ℕ) → Columns
+columns_of (answer.Held octets dropped) held payload =
     record { answer = shown.Held; octets = octets; dropped = dropped; accepted = payload; delivered = 0 }
-columnsOf (answer.Whole octets dropped) held payload =
+columns_of (answer.Whole octets dropped) held payload =
     record { answer = shown.Whole; octets = octets; dropped = dropped; accepted = payload; delivered = octets }
-columnsOf (answer.Refused number) held payload = refusedColumns number held
+columns_of (answer.Refused number) held payload = refused_columns number held

@@ -4,39 +4,39 @@
 use Rattle.std.specs.Prelude.{ℕ, ◌≡◌, List, length}
 use Rattle.refusals.specs.Check.{Answer, refused, accepted}
 use Rattle.slots.specs.declared.Table.{Table}
-use Rattle.slots.specs.Slots.{heldFor}
+use Rattle.slots.specs.Slots.{held_for}
 use Rattle.reassembly.specs.declared.FragmentAnswer.{FragmentAnswer}
 use Rattle.reassembly.specs.declared.FragmentResult.{FragmentResult}
-use Rattle.reassembly.specs.Checks.{fragmentIn}
+use Rattle.reassembly.specs.Checks.{fragment_in}
 use Rattle.reassembly.specs.Engine.{FragmentGives}
-use Rattle.bench_lines.specs.Numerals.{octetsOf}
-use Rattle.bench_lines.specs.Line.{Fields, lsduText, readLine, lsduAfter}
+use Rattle.bench_lines.specs.Numerals.{octets_of}
+use Rattle.bench_lines.specs.Line.{Fields, lsdu_text, read_line, lsdu_after}
 use Rattle.bench_joining.specs.declared.Columns.{Columns}
 use Rattle.bench_joining.specs.declared.Taken.{Taken}
 use Rattle.bench_joining.specs.declared.joining.Headed.{Headed}
-use Rattle.bench_joining.specs.Columns.{columnsOf, refusedWith}
+use Rattle.bench_joining.specs.Columns.{columns_of, refused_with}
 
 -- an LSDU's message number and octets of payload, 0 and 0 where its header is not valid
-unfoldable pub headedBy : List ℕ → Headed
-headedBy lsdu = record { number = (fragmentIn lsdu).number; payload = (fragmentIn lsdu).octets }
+unfoldable pub headed_by : List ℕ → Headed
+headed_by lsdu = record { number = (fragment_in lsdu).number; payload = (fragment_in lsdu).octets }
 
 -- the columns of an answer to an LSDU, with the octets held for the pair by the table after the call
-unfoldable pub columnsAfter : FragmentAnswer → (lid : ℕ) → (lsdu : List ℕ) → Table → Columns
-columnsAfter answer lid lsdu after = columnsOf answer (heldFor after lid (fragmentIn lsdu).number) (fragmentIn lsdu).octets
+unfoldable pub columns_after : FragmentAnswer → (lid : ℕ) → (lsdu : List ℕ) → Table → Columns
+columns_after answer lid lsdu after = columns_of answer (held_for after lid (fragment_in lsdu).number) (fragment_in lsdu).octets
 
 -- an LSDU is handed on: the call's contract holds of some call; the table is the call's, and the columns show its answer
 pub record LsduJoined (lid tick : ℕ) (lsdu : List ℕ) (table : Table) (store output : List ℕ) (r : Taken) (store' output' : List ℕ) : Type 0 where
   pub call : FragmentResult
   pub gives : FragmentGives lid tick lsdu table store output call store' output'
   pub table_is : r.table ≡ call.table
-  pub columns-are : r.columns ≡ columnsAfter call.answer lid lsdu call.table
+  pub columns_are : r.columns ≡ columns_after call.answer lid lsdu call.table
 
 -- a line that is not read: its refusal is shown, and nothing has changed
 pub record LineRefused (number : ℕ) (table : Table) (store output : List ℕ) (r : Taken) (store' output' : List ℕ) : Type 0 where
   pub table_is : r.table ≡ table
-  pub columns-are : r.columns ≡ refusedWith number 0
+  pub columns_are : r.columns ≡ refused_with number 0
   pub store_is : store' ≡ store
-  pub output-is : output' ≡ output
+  pub output_is : output' ≡ output
 
 -- by what reading the line answers
 unfoldable pub LineJoined : Answer Fields → (lsdu : List ℕ) → Table → (store output : List ℕ) → Taken → (store' output' : List ℕ) → Type 0
@@ -44,10 +44,10 @@ LineJoined (accepted f) lsdu table store output r store' output' = LsduJoined f.
 LineJoined (refused number) lsdu table store output r store' output' = LineRefused number table store output r store' output'
 
 -- the octets that the line spells as its LSDU
-unfoldable pub lsduOf : List ℕ → List ℕ
-lsduOf line = octetsOf (lsduText line)
+unfoldable pub lsdu_of : List ℕ → List ℕ
+lsdu_of line = octets_of (lsdu_text line)
 
 -- the contract: the result r, and the lent buffer for the LSDU, the store and the output afterwards
 pub record LineTaken (line : List ℕ) (table : Table) (lsdu store output : List ℕ) (r : Taken) (lsdu' store' output' : List ℕ) : Type 0 where
-  pub joined : LineJoined (readLine line (length lsdu)) (lsduOf line) table store output r store' output'
-  pub lsdu-is : lsdu' ≡ lsduAfter (readLine line (length lsdu)) line lsdu
+  pub joined : LineJoined (read_line line (length lsdu)) (lsdu_of line) table store output r store' output'
+  pub lsdu_is : lsdu' ≡ lsdu_after (read_line line (length lsdu)) line lsdu

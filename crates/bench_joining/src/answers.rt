@@ -1,6 +1,6 @@
 // What a line of output shows of a fragment call's answer.
 ghost use Rattle.std.specs.Prelude.{◌≡◌};
-ghost use Rattle.bench_joining.specs.Columns.{columnsOf, refusedColumns, refusedWith};
+ghost use Rattle.bench_joining.specs.Columns.{columns_of, refused_columns, refused_with};
 
 use crate::Columns;
 use bench_lines::BenchAnswer;
@@ -11,7 +11,7 @@ const FIRST_WITH_PAIR: u8 = refusals::NO_PAYLOAD;
 
 // The columns of an answer, where `held` octets are held for the pair after the call, and the fragment has `payload` octets.
 pub(crate) fn columns(answer: FragmentAnswer, held: usize, payload: usize) -> Columns
-    ensures { result ≡ columnsOf answer held payload }
+    ensures { result ≡ columns_of answer held payload }
 {
     match answer {
         FragmentAnswer::Held { octets, dropped } => Columns {
@@ -33,7 +33,7 @@ pub(crate) fn columns(answer: FragmentAnswer, held: usize, payload: usize) -> Co
 }
 
 fn refused(number: u8, held: usize) -> Columns
-    ensures { result ≡ refusedColumns number held }
+    ensures { result ≡ refused_columns number held }
 {
     if number < FIRST_WITH_PAIR {
         return no_octets(number, 0);
@@ -43,7 +43,7 @@ fn refused(number: u8, held: usize) -> Columns
 
 // The columns of a refusal.
 pub fn no_octets(number: u8, octets: usize) -> Columns
-    ensures { result ≡ refusedWith number octets }
+    ensures { result ≡ refused_with number octets }
 {
     Columns {
         answer: BenchAnswer::Refused(number),

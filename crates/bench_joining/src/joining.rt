@@ -1,6 +1,6 @@
 // A line, joined.
 ghost use Rattle.std.specs.Prelude.{◌≡◌, take};
-ghost use Rattle.bench_joining.specs.Joined.{headedBy, columnsAfter, LsduJoined, LineTaken};
+ghost use Rattle.bench_joining.specs.Joined.{headed_by, columns_after, LsduJoined, LineTaken};
 
 use crate::answers::{columns, no_octets};
 use crate::{Columns, Taken};
@@ -17,7 +17,7 @@ pub(crate) struct Headed {
 }
 
 fn header_of(lsdu: &[u8]) -> Headed
-    ensures { result ≡ headedBy lsdu.now }
+    ensures { result ≡ headed_by lsdu.now }
 {
     match header::read(lsdu) {
         HeaderRead::Fields { header, size } => Headed {
@@ -33,7 +33,7 @@ fn header_of(lsdu: &[u8]) -> Headed
 
 // The columns of an answer to a fragment, where `after` is the table after the call.
 pub fn shown(answer: FragmentAnswer, lid: u32, lsdu: &[u8], after: Table) -> Columns
-    ensures { result ≡ columnsAfter answer lid lsdu.now after }
+    ensures { result ≡ columns_after answer lid lsdu.now after }
 {
     let fragment = header_of(lsdu);
     let held = reassembly::held_for(after, lid, fragment.number);

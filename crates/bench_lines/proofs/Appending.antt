@@ -10,10 +10,10 @@ use lib.ListN.{length, get_or, take, drop, set, length-append, length-drop}
 use lib.Seq.{length-take-le, take-length, take_at, drop_at, drop-drop, drop-cons, set_at}
 use borrow.Author.Tests.{lt-leb, leb-true, not-true, not-false}
 use Rattle.refusals.specs.Check.{accepted}
-use Rattle.refusals.proofs.Tests.{leb-same}
-use Rattle.bench_lines.specs.Numerals.{digitsBefore, width, decimalBefore}
+use Rattle.refusals.proofs.Tests.{leb_same}
+use Rattle.bench_lines.specs.Numerals.{digits_before, width, decimal_before}
 use Rattle.bench_lines.specs.Inside.{copied, Placed}
-use Rattle.bench_lines.specs.Text.{numberText, namedText, heldWord, wholeWord, refusedWord, answerText, answerLineText, totalsText, written, hasRoom, appendText, appendedAnswer, outputAfter}
+use Rattle.bench_lines.specs.Text.{number_text, named_text, held_word, whole_word, refused_word, answer_text, answer_line_text, totals_text, written, has_room, append_text, appended_answer, output_after}
 use Rattle.bench_lines.specs.declared.BenchAnswer.{BenchAnswer}
 use Rattle.bench_lines.specs.declared.BenchAnswer.TheVariants as answer
 use Rattle.bench_lines.specs.declared.Totals.{Totals}
@@ -21,33 +21,33 @@ use Rattle.bench_lines.specs.declared.Appended.TheVariants as appended
 use Rattle.bench_lines.proofs.Decimal.{digits_append, length_digits}
 
 module _ (room at octets : ℕ) where
-  pub too_long : room < octets → false ≡ hasRoom room at octets
-  unfolding hasRoom
+  pub too_long : room < octets → false ≡ has_room room at octets
+  unfolding has_room
   too_long h = sym (lt-leb (at + octets) room (omega arith))
 
-  pub starts-inside : octets ≤ room → leb at (room - octets) ≡ hasRoom room at octets
-  unfolding hasRoom
-  starts-inside h = leb-same at (room - octets) (at + octets) room (λ k. omega arith) (λ k. omega arith)
+  pub starts_inside : octets ≤ room → leb at (room - octets) ≡ has_room room at octets
+  unfolding has_room
+  starts_inside h = leb_same at (room - octets) (at + octets) room (λ k. omega arith) (λ k. omega arith)
 
-  pub room-found : {r : Bool} → r ≡ hasRoom room at octets → not r ≡ false → at + octets ≤ room
-  unfolding hasRoom
-  room-found {r} e t = leb-true (at + octets) room (sym e ∙ not-false r t)
+  pub room_found : {r : Bool} → r ≡ has_room room at octets → not r ≡ false → at + octets ≤ room
+  unfolding has_room
+  room_found {r} e t = leb-true (at + octets) room (sym e ∙ not-false r t)
 
 module _ (out : List ℕ) (at : ℕ) (text : List ℕ) where
   module _ (fits : at + length text ≤ length out) where
     front : length (take at out ++ text) ≡ at + length text
     front = omega (arith, length-append (take at out) text, length-take-le at out (omega arith))
 
-    pub length-written : length (written out at text) ≡ length out
+    pub length_written : length (written out at text) ≡ length out
     unfolding written
-    length-written =
+    length_written =
         let f = front in
         rw (← append_assoc) (omega (arith, length-append (take at out ++ text) (drop (at + length text) out), length-drop (at + length text) out))
 
     -- a text behind another
-    pub written-append : (more : List ℕ) → written (written out at text) (at + length text) more ≡ written out at (text ++ more)
+    pub written_append : (more : List ℕ) → written (written out at text) (at + length text) more ≡ written out at (text ++ more)
     unfolding written
-    written-append more =
+    written_append more =
         let p = take at out ++ text in
         let n = at + length text in
         let rest = drop n out in
@@ -63,100 +63,100 @@ module _ (out : List ℕ) (at : ℕ) (text : List ℕ) where
 
 -- ---- a word, a number
 
-pub word-placed : (out : List ℕ) (at : ℕ) (s : List ℕ) {e : List ℕ} → e ≡ copied out at s (length s) → Placed out at s e (at + length s)
+pub word_placed : (out : List ℕ) (at : ℕ) (s : List ℕ) {e : List ℕ} → e ≡ copied out at s (length s) → Placed out at s e (at + length s)
 unfolding copied written
-word-placed out at s p = record { place = refl; octets = p ∙ rw take-length (append_assoc (take at out) s (drop (at + length s) out)) }
+word_placed out at s p = record { place = refl; octets = p ∙ rw take-length (append_assoc (take at out) s (drop (at + length s) out)) }
 
-pub length-number : (n end : ℕ) → length (numberText n end) ≡ width n + 1
-unfolding numberText decimalBefore
-length-number n end = length_digits 10 (width n) n (end ∷ [])
+pub length_number : (n end : ℕ) → length (number_text n end) ≡ width n + 1
+unfolding number_text decimal_before
+length_number n end = length_digits 10 (width n) n (end ∷ [])
 
-pub number-written : (out : List ℕ) (at n end : ℕ) {k : ℕ} {e : List ℕ} → k ≡ width n → e ≡ take at out ++ digitsBefore 10 k n (drop (at + k) out) → at + k < length out
-    → set e (at + k) end ≡ written out at (numberText n end)
-unfolding numberText decimalBefore written
-number-written out at n end {k} {e} w p h =
-    let d = digitsBefore 10 k n [] in
+pub number_written : (out : List ℕ) (at n end : ℕ) {k : ℕ} {e : List ℕ} → k ≡ width n → e ≡ take at out ++ digits_before 10 k n (drop (at + k) out) → at + k < length out
+    → set e (at + k) end ≡ written out at (number_text n end)
+unfolding number_text decimal_before written
+number_written out at n end {k} {e} w p h =
+    let d = digits_before 10 k n [] in
     let y = get_or out (at + k) 0 in
     let ys = drop (suc (at + k)) out in
     let l : length (take at out ++ d) ≡ at + k = omega (arith, length-append (take at out) d, length-take-le at out (omega arith), length_digits 10 k n []) in
     let a : e ≡ (take at out ++ d) ++ (y ∷ ys) =
     p ∙ ap (λ (m : List ℕ). take at out ++ m) (digits_append 10 k n (drop (at + k) out) ∙ ap (λ (m : List ℕ). d ++ m) (drop-cons out (at + k) 0 h))
     ∙ sym (append_assoc (take at out) d (y ∷ ys)) in
-    let q : at + length (digitsBefore 10 k n (end ∷ [])) ≡ suc (at + k) = omega (arith, length_digits 10 k n (end ∷ [])) in
+    let q : at + length (digits_before 10 k n (end ∷ [])) ≡ suc (at + k) = omega (arith, length_digits 10 k n (end ∷ [])) in
     ap (λ (m : List ℕ). set m (at + k) end) a ∙ set_at (take at out ++ d) y ys end (at + k) l
     ∙ sym (rw (← w, q, digits_append 10 k n (end ∷ [])) (regroup (take at out) d end ys))
   where
     regroup : (a b : List ℕ) (x : ℕ) (c : List ℕ) → a ++ ((b ++ (x ∷ [])) ++ c) ≡ (a ++ b) ++ (x ∷ c)
     regroup a b x c = simp append_assoc
 
-pub number-placed : (out : List ℕ) (at n end : ℕ) {k : ℕ} {e : List ℕ} → k ≡ width n → e ≡ take at out ++ digitsBefore 10 k n (drop (at + k) out) → at + k < length out
-    → Placed out at (numberText n end) (set e (at + k) end) (at + k + 1)
-number-placed out at n end w p h =
-    record { place = omega (arith, length-number n end); octets = number-written out at n end w p h }
+pub number_placed : (out : List ℕ) (at n end : ℕ) {k : ℕ} {e : List ℕ} → k ≡ width n → e ≡ take at out ++ digits_before 10 k n (drop (at + k) out) → at + k < length out
+    → Placed out at (number_text n end) (set e (at + k) end) (at + k + 1)
+number_placed out at n end w p h =
+    record { place = omega (arith, length_number n end); octets = number_written out at n end w p h }
 
 -- ---- texts one behind the other
 
-pub placed-length : {out : List ℕ} {at : ℕ} {text after : List ℕ} {next : ℕ} → at + length text ≤ length out → Placed out at text after next → length after ≡ length out
-placed-length {out} {at} {text} h p =
+pub placed_length : {out : List ℕ} {at : ℕ} {text after : List ℕ} {next : ℕ} → at + length text ≤ length out → Placed out at text after next → length after ≡ length out
+placed_length {out} {at} {text} h p =
     let e = p.octets in
-    rw e (length-written out at text h)
+    rw e (length_written out at text h)
 
-pub placed-two : {out : List ℕ} {at : ℕ} {a mid : List ℕ} {n : ℕ} {b after : List ℕ} {next : ℕ}
+pub placed_two : {out : List ℕ} {at : ℕ} {a mid : List ℕ} {n : ℕ} {b after : List ℕ} {next : ℕ}
     → at + length a ≤ length out → Placed out at a mid n → Placed mid n b after next → Placed out at (a ++ b) after next
-placed-two {out} {at} {a} {mid} {n} {b} {after} {next} h p q =
+placed_two {out} {at} {a} {mid} {n} {b} {after} {next} h p q =
     let i = p.place in
     let m = p.octets in
     let e = q.octets in
     record {
       place = omega (arith, q.place, i, length-append a b);
-      octets = e ∙ rw (m, i) (written-append out at a h b);
+      octets = e ∙ rw (m, i) (written_append out at a h b);
     }
 
-pub placed-as : {out : List ℕ} {at : ℕ} {a b after : List ℕ} {next : ℕ} → a ≡ b → Placed out at a after next → Placed out at b after next
-placed-as e p = rw e at p
+pub placed_as : {out : List ℕ} {at : ℕ} {a b after : List ℕ} {next : ℕ} → a ≡ b → Placed out at a after next → Placed out at b after next
+placed_as e p = rw e at p
 
-pub length-named : (word : List ℕ) (n end : ℕ) → length (namedText word n end) ≡ length word + (width n + 1)
-unfolding namedText
-length-named word n end = length-append word (numberText n end) ∙ ap (λ (k : ℕ). length word + k) (length-number n end)
+pub length_named : (word : List ℕ) (n end : ℕ) → length (named_text word n end) ≡ length word + (width n + 1)
+unfolding named_text
+length_named word n end = length-append word (number_text n end) ∙ ap (λ (k : ℕ). length word + k) (length_number n end)
 
-pub named-placed : (n end : ℕ) {out : List ℕ} {at : ℕ} {word mid : List ℕ} {m : ℕ} {after : List ℕ} {next : ℕ}
-    → at + length word ≤ length out → Placed out at word mid m → Placed mid m (numberText n end) after next → Placed out at (namedText word n end) after next
-unfolding namedText
-named-placed n end h p q = placed-two h p q
+pub named_placed : (n end : ℕ) {out : List ℕ} {at : ℕ} {word mid : List ℕ} {m : ℕ} {after : List ℕ} {next : ℕ}
+    → at + length word ≤ length out → Placed out at word mid m → Placed mid m (number_text n end) after next → Placed out at (named_text word n end) after next
+unfolding named_text
+named_placed n end h p q = placed_two h p q
 
 -- ---- answers
 
-pub held-text : {a : BenchAnswer} → a ≡ answer.Held → heldWord ≡ answerText a
-unfolding answerText
-held-text e = sym (ap answerText e)
+pub held_text : {a : BenchAnswer} → a ≡ answer.Held → held_word ≡ answer_text a
+unfolding answer_text
+held_text e = sym (ap answer_text e)
 
-pub whole-text : {a : BenchAnswer} → a ≡ answer.Whole → wholeWord ≡ answerText a
-unfolding answerText
-whole-text e = sym (ap answerText e)
+pub whole_text : {a : BenchAnswer} → a ≡ answer.Whole → whole_word ≡ answer_text a
+unfolding answer_text
+whole_text e = sym (ap answer_text e)
 
-pub refused-text : {a : BenchAnswer} {n : ℕ} → a ≡ answer.Refused n → namedText refusedWord n 32 ≡ answerText a
-unfolding answerText
-refused-text e = sym (ap answerText e)
+pub refused_text : {a : BenchAnswer} {n : ℕ} → a ≡ answer.Refused n → named_text refused_word n 32 ≡ answer_text a
+unfolding answer_text
+refused_text e = sym (ap answer_text e)
 
-pub refused-octets : {a : BenchAnswer} {n k : ℕ} → a ≡ answer.Refused n → k ≡ width n → k ≤ 20 → (9 + k ≡ length (answerText a)) × (9 + k ≤ 29)
-refused-octets {a} {n} {k} e w h =
-    let l : length (answerText a) ≡ 8 + (width n + 1) = sym (ap length (refused-text e)) ∙ length-named refusedWord n 32 in
+pub refused_octets : {a : BenchAnswer} {n k : ℕ} → a ≡ answer.Refused n → k ≡ width n → k ≤ 20 → (9 + k ≡ length (answer_text a)) × (9 + k ≤ 29)
+refused_octets {a} {n} {k} e w h =
+    let l : length (answer_text a) ≡ 8 + (width n + 1) = sym (ap length (refused_text e)) ∙ length_named refused_word n 32 in
     (omega arith, omega arith)
 
 -- ---- what appending answers
 
-module _ (out : List ℕ) (at : ℕ) (text : List ℕ) {r : Bool} {n : ℕ} (is : r ≡ hasRoom (length out) at n) (l : n ≡ length text) where
-  room-is : {b : Bool} → r ≡ b → hasRoom (length out) at (length text) ≡ b
-  room-is e = rw (← l) (sym is ∙ e)
+module _ (out : List ℕ) (at : ℕ) (text : List ℕ) {r : Bool} {n : ℕ} (is : r ≡ has_room (length out) at n) (l : n ≡ length text) where
+  room_is : {b : Bool} → r ≡ b → has_room (length out) at (length text) ≡ b
+  room_is e = rw (← l) (sym is ∙ e)
 
-  pub no_room : not r ≡ true → (appendedAnswer (appended.Refused 22) ≡ appendText out at text) × (out ≡ outputAfter (appendedAnswer (appended.Refused 22)) out at text)
-  unfolding appendedAnswer appendText outputAfter
-  no_room t = (simp (room-is (not-true r t)), refl)
+  pub no_room : not r ≡ true → (appended_answer (appended.Refused 22) ≡ append_text out at text) × (out ≡ output_after (appended_answer (appended.Refused 22)) out at text)
+  unfolding appended_answer append_text output_after
+  no_room t = (simp (room_is (not-true r t)), refl)
 
   pub room_for : {after : List ℕ} {next : ℕ} → not r ≡ false → Placed out at text after next
-      → (appendedAnswer (appended.Next next) ≡ appendText out at text) × (after ≡ outputAfter (appendedAnswer (appended.Next next)) out at text)
-  unfolding appendedAnswer appendText outputAfter
-  room_for t p = (ap accepted p.place ∙ simp (room-is (not-false r t)), p.octets)
+      → (appended_answer (appended.Next next) ≡ append_text out at text) × (after ≡ output_after (appended_answer (appended.Next next)) out at text)
+  unfolding appended_answer append_text output_after
+  room_for t p = (ap accepted p.place ∙ simp (room_is (not-false r t)), p.octets)
 
 -- ---- four texts one behind the other
 
@@ -164,33 +164,33 @@ module _ (out : List ℕ) (at : ℕ) (a b c d : List ℕ) (fits : at + length (a
   sum : length (a ++ (b ++ (c ++ d))) ≡ length a + (length b + (length c + length d))
   sum = simp length-append
 
-  pub four-placed : {x y z after : List ℕ} {k l m next : ℕ}
+  pub four_placed : {x y z after : List ℕ} {k l m next : ℕ}
       → Placed out at a x k → Placed x k b y l → Placed y l c z m → Placed z m d after next → Placed out at (a ++ (b ++ (c ++ d))) after next
-  four-placed {x} {y} {z} {after} {k} {l} {m} {next} p q r s =
+  four_placed {x} {y} {z} {after} {k} {l} {m} {next} p q r s =
       let f : at + length a ≤ length out = omega (arith, sum) in
-      let g = placed-length f p in
+      let g = placed_length f p in
       let i = p.place in
       let h : k + length b ≤ length x = omega (arith, sum) in
-      let j = placed-length h q in
+      let j = placed_length h q in
       let o = q.place in
-      placed-two f p (placed-two h q (placed-two (omega (arith, sum)) r s))
+      placed_two f p (placed_two h q (placed_two (omega (arith, sum)) r s))
 
 -- appended, where has_room was asked about their length
-module _ (out : List ℕ) (at : ℕ) (a b c d : List ℕ) {r : Bool} {n : ℕ} (is : r ≡ hasRoom (length out) at n) (l : n ≡ length (a ++ (b ++ (c ++ d)))) (t : not r ≡ false) where
-  pub four-appended : {x y z after : List ℕ} {i j k next : ℕ}
+module _ (out : List ℕ) (at : ℕ) (a b c d : List ℕ) {r : Bool} {n : ℕ} (is : r ≡ has_room (length out) at n) (l : n ≡ length (a ++ (b ++ (c ++ d)))) (t : not r ≡ false) where
+  pub four_appended : {x y z after : List ℕ} {i j k next : ℕ}
       → Placed out at a x i → Placed x i b y j → Placed y j c z k → Placed z k d after next
-      → (appendedAnswer (appended.Next next) ≡ appendText out at (a ++ (b ++ (c ++ d)))) × (after ≡ outputAfter (appendedAnswer (appended.Next next)) out at (a ++ (b ++ (c ++ d))))
-  four-appended p q u s =
-      let fits : at + length (a ++ (b ++ (c ++ d))) ≤ length out = rw l at (room-found (length out) at n is t) in
-      room_for out at (a ++ (b ++ (c ++ d))) is l t (four-placed out at a b c d fits p q u s)
+      → (appended_answer (appended.Next next) ≡ append_text out at (a ++ (b ++ (c ++ d)))) × (after ≡ output_after (appended_answer (appended.Next next)) out at (a ++ (b ++ (c ++ d))))
+  four_appended p q u s =
+      let fits : at + length (a ++ (b ++ (c ++ d))) ≤ length out = rw l at (room_found (length out) at n is t) in
+      room_for out at (a ++ (b ++ (c ++ d))) is l t (four_placed out at a b c d fits p q u s)
 
-pub length-line : (line : ℕ) (a : BenchAnswer) (octets dropped : ℕ) {w o v u : ℕ} → w ≡ width line → o ≡ length (answerText a) → v ≡ width octets → u ≡ width dropped
-    → w + o + v + u + 3 ≡ length (answerLineText line a octets dropped)
-unfolding answerLineText
-length-line line a octets dropped p q r s =
-    simp length-append (omega (arith, length-number line 32, length-number octets 32, length-number dropped 10))
+pub length_line : (line : ℕ) (a : BenchAnswer) (octets dropped : ℕ) {w o v u : ℕ} → w ≡ width line → o ≡ length (answer_text a) → v ≡ width octets → u ≡ width dropped
+    → w + o + v + u + 3 ≡ length (answer_line_text line a octets dropped)
+unfolding answer_line_text
+length_line line a octets dropped p q r s =
+    simp length-append (omega (arith, length_number line 32, length_number octets 32, length_number dropped 10))
 
-pub length-totals : (t : Totals) {w v u s : ℕ} → w ≡ width t.accepted → v ≡ width t.delivered → u ≡ width t.dropped → s ≡ width t.held
-    → w + v + u + s + 36 ≡ length (totalsText t)
-unfolding totalsText
-length-totals t p q r s = simp (length-append, length-named) (omega arith)
+pub length_totals : (t : Totals) {w v u s : ℕ} → w ≡ width t.accepted → v ≡ width t.delivered → u ≡ width t.dropped → s ≡ width t.held
+    → w + v + u + s + 36 ≡ length (totals_text t)
+unfolding totals_text
+length_totals t p q r s = simp (length-append, length_named) (omega arith)

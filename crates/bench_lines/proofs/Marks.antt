@@ -11,7 +11,7 @@ use lib.Seq.{drop-cons}
 use borrow.Author.Tests.{eq-eqb, ne_eqb}
 use Rattle.refusals.proofs.Tests.{by_cases}
 use Rattle.bench_lines.specs.Line.{before}
-use Rattle.bench_lines.specs.Splitting.{lineEnd}
+use Rattle.bench_lines.specs.Splitting.{line_end}
 
 module _ (s : List ℕ) (i mark : ℕ) {r : ℕ} (kept : r ≡ i + before mark (drop i s)) where
   pub found : i < length s → get_or s i 0 ≡ mark → i ≡ r
@@ -34,16 +34,16 @@ module _ (s : List ℕ) (i mark : ℕ) {r : ℕ} (kept : r ≡ i + before mark (
 
 -- ---- a line's end lies inside the input
 
-before-le : (mark : ℕ) (s : List ℕ) → before mark s ≤ length s
+before_le : (mark : ℕ) (s : List ℕ) → before mark s ≤ length s
 unfolding before
-before-le mark [] = omega arith
-before-le mark (c ∷ s) = by_cases (eqb c mark) (λ t. simp t (omega arith)) (λ t. simp t (omega (arith, before-le mark s)))
+before_le mark [] = omega arith
+before_le mark (c ∷ s) = by_cases (eqb c mark) (λ t. simp t (omega arith)) (λ t. simp t (omega (arith, before_le mark s)))
 
-module _ (input : List ℕ) (from : ℕ) {end : ℕ} (e : end ≡ lineEnd input from) where
-  pub end-behind : from ≤ end
-  unfolding lineEnd
-  end-behind = omega arith
+module _ (input : List ℕ) (from : ℕ) {end : ℕ} (e : end ≡ line_end input from) where
+  pub end_behind : from ≤ end
+  unfolding line_end
+  end_behind = omega arith
 
-  pub end-inside : from ≤ length input → end ≤ length input
-  unfolding lineEnd
-  end-inside h = omega (arith, before-le 10 (drop from input), length-drop from input)
+  pub end_inside : from ≤ length input → end ≤ length input
+  unfolding line_end
+  end_inside h = omega (arith, before_le 10 (drop from input), length-drop from input)

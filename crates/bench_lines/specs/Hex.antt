@@ -3,23 +3,23 @@
 -- Assumes nothing.
 use Rattle.std.specs.Prelude.{ℕ, ◌/◌, ◌%◌, Bool, ◌&&◌, List, ◌++◌, leb, eqb, length, drop}
 use Rattle.refusals.specs.Check.{pick, Answer, refused, accepted}
-use Rattle.bench_lines.specs.Numerals.{allDigits, octetsOf}
+use Rattle.bench_lines.specs.Numerals.{all_digits, octets_of}
 use Rattle.bench_lines.specs.declared.HexRead.{HexRead}
 use Rattle.bench_lines.specs.declared.HexRead.TheVariants as read
 
-unfoldable pub isHex : List ℕ → ℕ → Bool
-isHex line most = leb (length line) most && (eqb (length line % 2) 0 && allDigits 16 line)
+unfoldable pub is_hex : List ℕ → ℕ → Bool
+is_hex line most = leb (length line) most && (eqb (length line % 2) 0 && all_digits 16 line)
 
 -- how many octets the line spells
-unfoldable pub readHex : List ℕ → (most room : ℕ) → Answer ℕ
-readHex line most room = pick (isHex line most) (pick (leb (length line / 2) room) (accepted (length line / 2)) (refused 22)) (refused 0)
+unfoldable pub read_hex : List ℕ → (most room : ℕ) → Answer ℕ
+read_hex line most room = pick (is_hex line most) (pick (leb (length line / 2) room) (accepted (length line / 2)) (refused 22)) (refused 0)
 
 -- 01's number and value for each case of the answer
-unfoldable pub hexAnswer : HexRead → Answer ℕ
-hexAnswer (read.Octets n) = accepted n
-hexAnswer (read.Refused k) = refused k
+unfoldable pub hex_answer : HexRead → Answer ℕ
+hex_answer (read.Octets n) = accepted n
+hex_answer (read.Refused k) = refused k
 
 -- the buffer after an answer: the octets at its front and the rest as it was; a refusal leaves all as it was
-unfoldable pub bufferAfterHex : Answer ℕ → List ℕ → List ℕ → List ℕ
-bufferAfterHex (refused k) line buffer = buffer
-bufferAfterHex (accepted n) line buffer = octetsOf line ++ drop n buffer
+unfoldable pub buffer_after_hex : Answer ℕ → List ℕ → List ℕ → List ℕ
+buffer_after_hex (refused k) line buffer = buffer
+buffer_after_hex (accepted n) line buffer = octets_of line ++ drop n buffer

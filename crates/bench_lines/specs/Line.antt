@@ -5,21 +5,21 @@
 use Rattle.std.specs.Prelude.{ℕ, suc, ◌+◌, ◌/◌, ◌%◌, ◌^◌, Bool, true, ◌&&◌, List, [], ◌∷◌, ◌++◌, leb, ltb, eqb, length, drop}
 use Rattle.std.proofs.Math.Seq.{slice}
 use Rattle.refusals.specs.Check.{pick, Answer, refused, accepted}
-use Rattle.bench_lines.specs.Numerals.{allDigits, spelled, octetsOf, digitFor, digitsBefore, decimalBefore}
+use Rattle.bench_lines.specs.Numerals.{all_digits, spelled, octets_of, digit_for, digits_before, decimal_before}
 use Rattle.bench_lines.specs.declared.LineRead.{LineRead}
 use Rattle.bench_lines.specs.declared.LineRead.TheVariants as read
 
 -- ---- 01's limits
 
 -- the most characters of a line, the hex digits of a LID, and the number that a tick is below
-abbrev pub longestLine : ℕ
-longestLine = 600
+abbrev pub longest_line : ℕ
+longest_line = 600
 
-abbrev pub lidDigits : ℕ
-lidDigits = 7
+abbrev pub lid_digits : ℕ
+lid_digits = 7
 
-abbrev pub tickBound : ℕ
-tickBound = 2 ^ 32
+abbrev pub tick_bound : ℕ
+tick_bound = 2 ^ 32
 
 -- ---- the three fields
 
@@ -29,40 +29,40 @@ before mark [] = 0
 before mark (c ∷ s) = pick (eqb c mark) 0 (suc (before mark s))
 
 -- the place of the first space, and of the second; the line's end where there is none
-unfoldable pub firstSpace : List ℕ → ℕ
-firstSpace line = before 32 line
+unfoldable pub first_space : List ℕ → ℕ
+first_space line = before 32 line
 
-unfoldable pub secondSpace : List ℕ → ℕ
-secondSpace line = firstSpace line + 1 + before 32 (drop (firstSpace line + 1) line)
+unfoldable pub second_space : List ℕ → ℕ
+second_space line = first_space line + 1 + before 32 (drop (first_space line + 1) line)
 
 -- what stands before the first space, between the two, and behind the second
-unfoldable pub lidText : List ℕ → List ℕ
-lidText line = slice 0 (firstSpace line) line
+unfoldable pub lid_text : List ℕ → List ℕ
+lid_text line = slice 0 (first_space line) line
 
-unfoldable pub tickText : List ℕ → List ℕ
-tickText line = slice (firstSpace line + 1) (secondSpace line) line
+unfoldable pub tick_text : List ℕ → List ℕ
+tick_text line = slice (first_space line + 1) (second_space line) line
 
-unfoldable pub lsduText : List ℕ → List ℕ
-lsduText line = drop (secondSpace line + 1) line
+unfoldable pub lsdu_text : List ℕ → List ℕ
+lsdu_text line = drop (second_space line + 1) line
 
 -- whether all of these hold
-unfoldable pub allHold : List Bool → Bool
-allHold [] = true
-allHold (b ∷ bs) = b && allHold bs
+unfoldable pub all_hold : List Bool → Bool
+all_hold [] = true
+all_hold (b ∷ bs) = b && all_hold bs
 
 -- at most 600 characters; 7 hex digits, a space; at least one decimal digit, of a number below 2^32, a space; an even number of hex digits
-unfoldable pub hasForm : List ℕ → Bool
-hasForm line =
-    allHold
-    (leb (length line) longestLine
-    ∷ eqb (firstSpace line) lidDigits
-    ∷ ltb (secondSpace line) (length line)
-    ∷ allDigits 16 (lidText line)
-    ∷ ltb 0 (length (tickText line))
-    ∷ allDigits 10 (tickText line)
-    ∷ ltb (spelled 10 (tickText line)) tickBound
-    ∷ eqb (length (lsduText line) % 2) 0
-    ∷ allDigits 16 (lsduText line)
+unfoldable pub has_form : List ℕ → Bool
+has_form line =
+    all_hold
+    (leb (length line) longest_line
+    ∷ eqb (first_space line) lid_digits
+    ∷ ltb (second_space line) (length line)
+    ∷ all_digits 16 (lid_text line)
+    ∷ ltb 0 (length (tick_text line))
+    ∷ all_digits 10 (tick_text line)
+    ∷ ltb (spelled 10 (tick_text line)) tick_bound
+    ∷ eqb (length (lsdu_text line) % 2) 0
+    ∷ all_digits 16 (lsdu_text line)
     ∷ []
     )
 
@@ -76,30 +76,30 @@ pub record Fields : Type 0 where
 
 unfoldable pub fields_of : List ℕ → Fields
 fields_of line =
-    record { lid = spelled 16 (lidText line); tick = spelled 10 (tickText line); octets = length (lsduText line) / 2 }
+    record { lid = spelled 16 (lid_text line); tick = spelled 10 (tick_text line); octets = length (lsdu_text line) / 2 }
 
 -- refusal 0 for a line not of this form, then 22 where the buffer's room is too small for the LSDU
-unfoldable pub readLine : List ℕ → ℕ → Answer Fields
-readLine line room =
-    pick (hasForm line) (pick (leb (fields_of line).octets room) (accepted (fields_of line)) (refused 22)) (refused 0)
+unfoldable pub read_line : List ℕ → ℕ → Answer Fields
+read_line line room =
+    pick (has_form line) (pick (leb (fields_of line).octets room) (accepted (fields_of line)) (refused 22)) (refused 0)
 
 -- 01's number and values for each case of the reader's answer
-unfoldable pub lineAnswer : LineRead → Answer Fields
-lineAnswer (read.Fields l t n) = accepted (record { lid = l; tick = t; octets = n })
-lineAnswer (read.Refused k) = refused k
+unfoldable pub line_answer : LineRead → Answer Fields
+line_answer (read.Fields l t n) = accepted (record { lid = l; tick = t; octets = n })
+line_answer (read.Refused k) = refused k
 
 -- the buffer after an answer: the LSDU at its front and the rest as it was; a refusal leaves all as it was
-unfoldable pub lsduAfter : Answer Fields → List ℕ → List ℕ → List ℕ
-lsduAfter (refused k) line buffer = buffer
-lsduAfter (accepted f) line buffer = octetsOf (lsduText line) ++ drop f.octets buffer
+unfoldable pub lsdu_after : Answer Fields → List ℕ → List ℕ → List ℕ
+lsdu_after (refused k) line buffer = buffer
+lsdu_after (accepted f) line buffer = octets_of (lsdu_text line) ++ drop f.octets buffer
 
 -- ---- printing a line
 
 -- octets in hex
-unfoldable pub hexText : List ℕ → List ℕ
-hexText [] = []
-hexText (o ∷ s) = digitFor (o / 16) ∷ (digitFor (o % 16) ∷ hexText s)
+unfoldable pub hex_text : List ℕ → List ℕ
+hex_text [] = []
+hex_text (o ∷ s) = digit_for (o / 16) ∷ (digit_for (o % 16) ∷ hex_text s)
 
 -- LID, tick and LSDU as a line; of a LID its last digits
-unfoldable pub lineText : ℕ → ℕ → List ℕ → List ℕ
-lineText lid tick lsdu = digitsBefore 16 lidDigits lid (32 ∷ decimalBefore tick (32 ∷ hexText lsdu))
+unfoldable pub line_text : ℕ → ℕ → List ℕ → List ℕ
+line_text lid tick lsdu = digits_before 16 lid_digits lid (32 ∷ decimal_before tick (32 ∷ hex_text lsdu))

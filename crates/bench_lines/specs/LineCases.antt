@@ -5,8 +5,8 @@ use Rattle.std.specs.Prelude.{ℕ, ◌≡◌, List, [], ◌∷◌, ◌++◌, map
 use Rattle.refusals.specs.Check.{Answer, refused, accepted}
 use Rattle.bench_lines.specs.declared.BenchAnswer.TheVariants as answer
 use Rattle.bench_lines.specs.declared.Totals.{Totals}
-use Rattle.bench_lines.specs.Line.{Fields, readLine, lineText}
-use Rattle.bench_lines.specs.Text.{headingText, answerLineText, totalsText}
+use Rattle.bench_lines.specs.Line.{Fields, read_line, line_text}
+use Rattle.bench_lines.specs.Text.{heading_text, answer_line_text, totals_text}
 
 abbrev pub totals : (taken out lost kept : ℕ) → Totals
 totals taken out lost kept = record { accepted = taken; delivered = out; dropped = lost; held = kept }
@@ -27,27 +27,27 @@ abbrev pub pictures : List PrintCase
 pictures =
     -- 01's picture: heading, three lines and totals
     -- `line answer octets dropped`
-    prints headingText (108 ∷ 105 ∷ 110 ∷ 101 ∷ 32 ∷ 97 ∷ 110 ∷ 115 ∷ 119 ∷ 101 ∷ 114 ∷ 32 ∷ 111 ∷ 99 ∷ 116 ∷ 101 ∷ 116 ∷ 115 ∷ 32 ∷ 100 ∷ 114 ∷ 111 ∷ 112 ∷ 112 ∷ 101 ∷ 100 ∷ 10 ∷ [])
+    prints heading_text (108 ∷ 105 ∷ 110 ∷ 101 ∷ 32 ∷ 97 ∷ 110 ∷ 115 ∷ 119 ∷ 101 ∷ 114 ∷ 32 ∷ 111 ∷ 99 ∷ 116 ∷ 101 ∷ 116 ∷ 115 ∷ 32 ∷ 100 ∷ 114 ∷ 111 ∷ 112 ∷ 112 ∷ 101 ∷ 100 ∷ 10 ∷ [])
     -- `1 held 2 0`
-    ∷ prints (answerLineText 1 answer.Held 2 0) (49 ∷ 32 ∷ 104 ∷ 101 ∷ 108 ∷ 100 ∷ 32 ∷ 50 ∷ 32 ∷ 48 ∷ 10 ∷ [])
+    ∷ prints (answer_line_text 1 answer.Held 2 0) (49 ∷ 32 ∷ 104 ∷ 101 ∷ 108 ∷ 100 ∷ 32 ∷ 50 ∷ 32 ∷ 48 ∷ 10 ∷ [])
     -- `2 whole 3 0`
-    ∷ prints (answerLineText 2 answer.Whole 3 0) (50 ∷ 32 ∷ 119 ∷ 104 ∷ 111 ∷ 108 ∷ 101 ∷ 32 ∷ 51 ∷ 32 ∷ 48 ∷ 10 ∷ [])
+    ∷ prints (answer_line_text 2 answer.Whole 3 0) (50 ∷ 32 ∷ 119 ∷ 104 ∷ 111 ∷ 108 ∷ 101 ∷ 32 ∷ 51 ∷ 32 ∷ 48 ∷ 10 ∷ [])
     -- `3 refused-8 0 0`
-    ∷ prints (answerLineText 3 (answer.Refused 8) 0 0) (51 ∷ 32 ∷ 114 ∷ 101 ∷ 102 ∷ 117 ∷ 115 ∷ 101 ∷ 100 ∷ 45 ∷ 56 ∷ 32 ∷ 48 ∷ 32 ∷ 48 ∷ 10 ∷ [])
+    ∷ prints (answer_line_text 3 (answer.Refused 8) 0 0) (51 ∷ 32 ∷ 114 ∷ 101 ∷ 102 ∷ 117 ∷ 115 ∷ 101 ∷ 100 ∷ 45 ∷ 56 ∷ 32 ∷ 48 ∷ 32 ∷ 48 ∷ 10 ∷ [])
     -- `accepted 3 delivered 3 dropped 0 held 0`
-    ∷ prints (totalsText (totals 3 3 0 0)) (97 ∷ 99 ∷ 99 ∷ 101 ∷ 112 ∷ 116 ∷ 101 ∷ 100 ∷ 32 ∷ 51 ∷ 32 ∷ 100 ∷ 101 ∷ 108 ∷ 105 ∷ 118 ∷ 101 ∷ 114 ∷ 101 ∷ 100 ∷ 32 ∷ 51 ∷ 32 ∷ 100 ∷ 114 ∷ 111 ∷ 112 ∷ 112 ∷ 101 ∷ 100 ∷ 32 ∷ 48 ∷ 32 ∷ 104 ∷ 101 ∷ 108 ∷ 100 ∷ 32 ∷ 48 ∷ 10 ∷ [])
+    ∷ prints (totals_text (totals 3 3 0 0)) (97 ∷ 99 ∷ 99 ∷ 101 ∷ 112 ∷ 116 ∷ 101 ∷ 100 ∷ 32 ∷ 51 ∷ 32 ∷ 100 ∷ 101 ∷ 108 ∷ 105 ∷ 118 ∷ 101 ∷ 114 ∷ 101 ∷ 100 ∷ 32 ∷ 51 ∷ 32 ∷ 100 ∷ 114 ∷ 111 ∷ 112 ∷ 112 ∷ 101 ∷ 100 ∷ 32 ∷ 48 ∷ 32 ∷ 104 ∷ 101 ∷ 108 ∷ 100 ∷ 32 ∷ 48 ∷ 10 ∷ [])
     -- numbers that differ, of one to four digits: no column and no total stands for another
     -- `1009 refused-12 508 70`
-    ∷ prints (answerLineText 1009 (answer.Refused 12) 508 70) (49 ∷ 48 ∷ 48 ∷ 57 ∷ 32 ∷ 114 ∷ 101 ∷ 102 ∷ 117 ∷ 115 ∷ 101 ∷ 100 ∷ 45 ∷ 49 ∷ 50 ∷ 32 ∷ 53 ∷ 48 ∷ 56 ∷ 32 ∷ 55 ∷ 48 ∷ 10 ∷ [])
+    ∷ prints (answer_line_text 1009 (answer.Refused 12) 508 70) (49 ∷ 48 ∷ 48 ∷ 57 ∷ 32 ∷ 114 ∷ 101 ∷ 102 ∷ 117 ∷ 115 ∷ 101 ∷ 100 ∷ 45 ∷ 49 ∷ 50 ∷ 32 ∷ 53 ∷ 48 ∷ 56 ∷ 32 ∷ 55 ∷ 48 ∷ 10 ∷ [])
     -- `accepted 10 delivered 9 dropped 800 held 7654`
-    ∷ prints (totalsText (totals 10 9 800 7654)) (97 ∷ 99 ∷ 99 ∷ 101 ∷ 112 ∷ 116 ∷ 101 ∷ 100 ∷ 32 ∷ 49 ∷ 48 ∷ 32 ∷ 100 ∷ 101 ∷ 108 ∷ 105 ∷ 118 ∷ 101 ∷ 114 ∷ 101 ∷ 100 ∷ 32 ∷ 57 ∷ 32 ∷ 100 ∷ 114 ∷ 111 ∷ 112 ∷ 112 ∷ 101 ∷ 100 ∷ 32 ∷ 56 ∷ 48 ∷ 48 ∷ 32 ∷ 104 ∷ 101 ∷ 108 ∷ 100 ∷ 32 ∷ 55 ∷ 54 ∷ 53 ∷ 52 ∷ 10 ∷ [])
+    ∷ prints (totals_text (totals 10 9 800 7654)) (97 ∷ 99 ∷ 99 ∷ 101 ∷ 112 ∷ 116 ∷ 101 ∷ 100 ∷ 32 ∷ 49 ∷ 48 ∷ 32 ∷ 100 ∷ 101 ∷ 108 ∷ 105 ∷ 118 ∷ 101 ∷ 114 ∷ 101 ∷ 100 ∷ 32 ∷ 57 ∷ 32 ∷ 100 ∷ 114 ∷ 111 ∷ 112 ∷ 112 ∷ 101 ∷ 100 ∷ 32 ∷ 56 ∷ 48 ∷ 48 ∷ 32 ∷ 104 ∷ 101 ∷ 108 ∷ 100 ∷ 32 ∷ 55 ∷ 54 ∷ 53 ∷ 52 ∷ 10 ∷ [])
     -- a line: LID of seven hex digits, tick, LSDU in hex, capital letters; of an empty LSDU the space stays
     -- `0000001 0 11AABB`
-    ∷ prints (lineText 1 0 (0x11 ∷ 0xAA ∷ 0xBB ∷ [])) (48 ∷ 48 ∷ 48 ∷ 48 ∷ 48 ∷ 48 ∷ 49 ∷ 32 ∷ 48 ∷ 32 ∷ 49 ∷ 49 ∷ 65 ∷ 65 ∷ 66 ∷ 66 ∷ [])
+    ∷ prints (line_text 1 0 (0x11 ∷ 0xAA ∷ 0xBB ∷ [])) (48 ∷ 48 ∷ 48 ∷ 48 ∷ 48 ∷ 48 ∷ 49 ∷ 32 ∷ 48 ∷ 32 ∷ 49 ∷ 49 ∷ 65 ∷ 65 ∷ 66 ∷ 66 ∷ [])
     -- `ABCDEF9 40960 09F0`
-    ∷ prints (lineText 0xABCDEF9 40960 (0x09 ∷ 0xF0 ∷ [])) (65 ∷ 66 ∷ 67 ∷ 68 ∷ 69 ∷ 70 ∷ 57 ∷ 32 ∷ 52 ∷ 48 ∷ 57 ∷ 54 ∷ 48 ∷ 32 ∷ 48 ∷ 57 ∷ 70 ∷ 48 ∷ [])
+    ∷ prints (line_text 0xABCDEF9 40960 (0x09 ∷ 0xF0 ∷ [])) (65 ∷ 66 ∷ 67 ∷ 68 ∷ 69 ∷ 70 ∷ 57 ∷ 32 ∷ 52 ∷ 48 ∷ 57 ∷ 54 ∷ 48 ∷ 32 ∷ 48 ∷ 57 ∷ 70 ∷ 48 ∷ [])
     -- `0000000 10 `
-    ∷ prints (lineText 0 10 []) (48 ∷ 48 ∷ 48 ∷ 48 ∷ 48 ∷ 48 ∷ 48 ∷ 32 ∷ 49 ∷ 48 ∷ 32 ∷ [])
+    ∷ prints (line_text 0 10 []) (48 ∷ 48 ∷ 48 ∷ 48 ∷ 48 ∷ 48 ∷ 48 ∷ 32 ∷ 49 ∷ 48 ∷ 32 ∷ [])
     ∷ []
 
 -- ---- reading
@@ -72,7 +72,7 @@ lines =
     reads (48 ∷ 48 ∷ 48 ∷ 48 ∷ 48 ∷ 48 ∷ 49 ∷ 32 ∷ 48 ∷ 32 ∷ 49 ∷ 49 ∷ 65 ∷ 65 ∷ 66 ∷ 66 ∷ []) 128 (accepted (fields 1 0 3))
     -- `0000001 5 93CC`
     ∷ reads (48 ∷ 48 ∷ 48 ∷ 48 ∷ 48 ∷ 48 ∷ 49 ∷ 32 ∷ 53 ∷ 32 ∷ 57 ∷ 51 ∷ 67 ∷ 67 ∷ []) 128 (accepted (fields 1 5 2))
-    -- `aBcDeF9 4294967295 `
+    -- `a_bc_de_f9 4294967295 `
     ∷ reads (97 ∷ 66 ∷ 99 ∷ 68 ∷ 101 ∷ 70 ∷ 57 ∷ 32 ∷ 52 ∷ 50 ∷ 57 ∷ 52 ∷ 57 ∷ 54 ∷ 55 ∷ 50 ∷ 57 ∷ 53 ∷ 32 ∷ []) 0 (accepted (fields 0xABCDEF9 4294967295 0))
     -- `0000002 007 0a`
     ∷ reads (48 ∷ 48 ∷ 48 ∷ 48 ∷ 48 ∷ 48 ∷ 50 ∷ 32 ∷ 48 ∷ 48 ∷ 55 ∷ 32 ∷ 48 ∷ 97 ∷ []) 1 (accepted (fields 2 7 1))
@@ -108,4 +108,4 @@ lines =
 -- what is proved
 pub record LineCasesHold : Type 0 where
   pub printing : map (λ (p : PrintCase). p.text) pictures ≡ map (λ (p : PrintCase). p.is) pictures
-  pub reading : map (λ (l : ReadCase). readLine l.line l.room) lines ≡ map (λ (l : ReadCase). l.gives) lines
+  pub reading : map (λ (l : ReadCase). read_line l.line l.room) lines ≡ map (λ (l : ReadCase). l.gives) lines

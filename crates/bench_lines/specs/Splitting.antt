@@ -5,16 +5,16 @@ use Rattle.std.specs.Prelude.{ℕ, ◌+◌, List, [], ◌∷◌, ◌++◌, lengt
 use Rattle.bench_lines.specs.Line.{before}
 
 -- the place of the first line feed from a place on; the input's end where there is none, and the place itself where it lies behind that
-unfoldable pub lineEnd : List ℕ → ℕ → ℕ
-lineEnd input from = from + before 10 (drop from input)
+unfoldable pub line_end : List ℕ → ℕ → ℕ
+line_end input from = from + before 10 (drop from input)
 
 -- the first octets of a buffer and a part more, as much as the buffer has room for
-unfoldable pub keptLine : List ℕ → ℕ → List ℕ → List ℕ
-keptLine buffer held part = take (length buffer) (take held buffer ++ part)
+unfoldable pub kept_line : List ℕ → ℕ → List ℕ → List ℕ
+kept_line buffer held part = take (length buffer) (take held buffer ++ part)
 
 -- the buffer with these octets at its front, and every other octet as it was
-unfoldable pub bufferAfter : List ℕ → List ℕ → List ℕ
-bufferAfter line buffer = line ++ drop (length line) buffer
+unfoldable pub buffer_after : List ℕ → List ℕ → List ℕ
+buffer_after line buffer = line ++ drop (length line) buffer
 
 -- ---- a line of several parts
 
@@ -24,20 +24,20 @@ pub record LineSoFar : Type 0 where
   pub held : ℕ
 
 -- none of a line
-abbrev pub noneIn : List ℕ → LineSoFar
-noneIn buffer = record { buffer = buffer; held = 0 }
+abbrev pub none_in : List ℕ → LineSoFar
+none_in buffer = record { buffer = buffer; held = 0 }
 
 -- what is kept of it
-abbrev pub keptOf : LineSoFar → List ℕ
-keptOf l = take l.held l.buffer
+abbrev pub kept_of : LineSoFar → List ℕ
+kept_of l = take l.held l.buffer
 
 -- the line with a part more, as `keep_part` leaves it
-unfoldable pub withPart : LineSoFar → List ℕ → LineSoFar
-withPart l part =
-    let line = keptLine l.buffer l.held part in
-    record { buffer = bufferAfter line l.buffer; held = length line }
+unfoldable pub with_part : LineSoFar → List ℕ → LineSoFar
+with_part l part =
+    let line = kept_line l.buffer l.held part in
+    record { buffer = buffer_after line l.buffer; held = length line }
 
 -- and with parts more, one call for each
-unfoldable pub withParts : LineSoFar → List (List ℕ) → LineSoFar
-withParts l [] = l
-withParts l (part ∷ parts) = withParts (withPart l part) parts
+unfoldable pub with_parts : LineSoFar → List (List ℕ) → LineSoFar
+with_parts l [] = l
+with_parts l (part ∷ parts) = with_parts (with_part l part) parts

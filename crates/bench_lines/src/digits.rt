@@ -1,7 +1,7 @@
 // Digits of numbers, read and written.
 ghost use Rattle.std.specs.Prelude.{◌≡◌, ◌+◌, ◌*◌, ◌≤◌, ◌<◌, ◌++◌, true, length, take, drop};
 ghost use Rattle.std.proofs.Math.Seq.{slice};
-ghost use Rattle.bench_lines.specs.Numerals.{digitValue, allDigits, spelled, octetsOf, digitsBefore, width};
+ghost use Rattle.bench_lines.specs.Numerals.{digit_value, all_digits, spelled, octets_of, digits_before, width};
 ghost use Rattle.bench_lines.specs.Inside.{capped};
 
 // One more than the largest tick; no number that is read counts further.
@@ -15,7 +15,7 @@ fn wide(x: u8) -> u64
 
 // The value of a hex digit of either case; 16 for any other character.
 fn digit_value(c: u8) -> u64
-    ensures { (result ≡ digitValue c) × (result ≤ 16) }
+    ensures { (result ≡ digit_value c) × (result ≤ 16) }
 {
     let x = wide(c);
     if x < 48 {
@@ -42,7 +42,7 @@ fn digit_value(c: u8) -> u64
 // Whether the characters from `from` up to `to` are digits of this base.
 pub(crate) fn digits_in(s: &[u8], from: usize, to: usize, base: u64) -> bool
     requires { (from ≤ to) × (to ≤ length s.now) }
-    ensures { result ≡ allDigits base (slice from to s.now) }
+    ensures { result ≡ all_digits base (slice from to s.now) }
 {
     let mut i = from;
     while i < to {
@@ -73,16 +73,16 @@ pub(crate) fn number_in(s: &[u8], from: usize, to: usize, base: u64) -> u64
 
 // The octet that two hex digits spell.
 fn octet_of(high: u8, low: u8) -> u8
-    requires { (digitValue high < 16) × (digitValue low < 16) }
-    ensures { result ≡ digitValue high * 16 + digitValue low }
+    requires { (digit_value high < 16) × (digit_value low < 16) }
+    ensures { result ≡ digit_value high * 16 + digit_value low }
 {
     (digit_value(high) * 16 + digit_value(low)) as u8
 }
 
 // Writes the octets that the hex digits from `from` on spell to the front of `out`, `n` of them.
 pub(crate) fn put_octets(s: &[u8], from: usize, n: usize, out: &mut [u8])
-    requires { (from + 2 * n ≡ length s.now) × (n ≤ length out.old) × (allDigits 16 (drop from s.now) ≡ true) }
-    ensures { out.new ≡ octetsOf (drop from s.now) ++ drop n out.old }
+    requires { (from + 2 * n ≡ length s.now) × (n ≤ length out.old) × (all_digits 16 (drop from s.now) ≡ true) }
+    ensures { out.new ≡ octets_of (drop from s.now) ++ drop n out.old }
 {
     let mut k: usize = 0;
     while k < n {
@@ -107,7 +107,7 @@ pub(crate) fn width_of(n: u64) -> usize
 // Writes the `k` last decimal digits of `n` to `out` from place `at` on.
 pub(crate) fn put_digits(out: &mut [u8], at: usize, k: usize, n: u64)
     requires { at + k ≤ length out.old }
-    ensures { out.new ≡ take at out.old ++ digitsBefore 10 k n (drop (at + k) out.old) }
+    ensures { out.new ≡ take at out.old ++ digits_before 10 k n (drop (at + k) out.old) }
 {
     let mut rest = n;
     let mut i = k;

@@ -1,6 +1,6 @@
 // A line that is hex and nothing else.
 ghost use Rattle.std.specs.Prelude.{◌≡◌, length};
-ghost use Rattle.bench_lines.specs.Hex.{readHex, hexAnswer, bufferAfterHex};
+ghost use Rattle.bench_lines.specs.Hex.{read_hex, hex_answer, buffer_after_hex};
 
 use crate::digits::{digits_in, put_octets};
 use crate::{HexRead, NOT_A_LINE};
@@ -8,7 +8,7 @@ use crate::{HexRead, NOT_A_LINE};
 // Reads an even number of hex digits, at most `most`, to octets at the front of `buffer`. A refusal changes nothing: 0 where the line is not of this
 // form, then 22 where the buffer is too small.
 pub fn read_hex(line: &[u8], most: usize, buffer: &mut [u8]) -> HexRead
-    ensures { (hexAnswer result ≡ readHex line.now most (length buffer.old)) × (buffer.new ≡ bufferAfterHex (hexAnswer result) line.now buffer.old) }
+    ensures { (hex_answer result ≡ read_hex line.now most (length buffer.old)) × (buffer.new ≡ buffer_after_hex (hex_answer result) line.now buffer.old) }
 {
     let characters = line.len();
     if most < characters {

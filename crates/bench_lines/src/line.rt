@@ -1,6 +1,6 @@
 // A line of a recording.
 ghost use Rattle.std.specs.Prelude.{◌≡◌, ◌+◌, length, drop};
-ghost use Rattle.bench_lines.specs.Line.{before, hasForm, readLine, lineAnswer, lsduAfter};
+ghost use Rattle.bench_lines.specs.Line.{before, has_form, read_line, line_answer, lsdu_after};
 ghost use Rattle.bench_lines.specs.RoundTrip.{ReadingPrinted};
 
 use crate::digits::{NUMBER_BOUND, digits_in, number_in, put_octets};
@@ -28,7 +28,7 @@ pub(crate) fn find(s: &[u8], from: usize, mark: u8) -> usize
 
 // Whether a line has 01's form.
 fn has_form(line: &[u8]) -> bool
-    ensures { result ≡ hasForm line.now }
+    ensures { result ≡ has_form line.now }
 {
     if LONGEST_LINE < line.len() {
         return false;
@@ -60,7 +60,7 @@ fn has_form(line: &[u8]) -> bool
 
 // The fields of a line, and its LSDU at the front of `lsdu`; 0 where it has not 01's form, then 22 where `lsdu` is too short.
 pub fn read_line(line: &[u8], lsdu: &mut [u8]) -> LineRead
-    ensures answer { (lineAnswer result ≡ readLine line.now (length lsdu.old)) × (lsdu.new ≡ lsduAfter (lineAnswer result) line.now lsdu.old) }
+    ensures answer { (line_answer result ≡ read_line line.now (length lsdu.old)) × (lsdu.new ≡ lsdu_after (line_answer result) line.now lsdu.old) }
     ensures printed { ReadingPrinted }
 {
     if !has_form(line) {

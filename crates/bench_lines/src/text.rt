@@ -1,7 +1,7 @@
 // The text of what the bench prints, appended to a lent buffer.
 ghost use Rattle.std.specs.Prelude.{◌≡◌, ◌+◌, ◌≤◌, length};
 ghost use Rattle.bench_lines.specs.Inside.{Placed};
-ghost use Rattle.bench_lines.specs.Text.{numberText, namedText, answerText, headingText, answerLineText, totalsText, hasRoom, appendText, appendedAnswer, outputAfter};
+ghost use Rattle.bench_lines.specs.Text.{number_text, named_text, answer_text, heading_text, answer_line_text, totals_text, has_room, append_text, appended_answer, output_after};
 
 use crate::digits::{put_digits, width_of};
 use crate::splitting::copy;
@@ -13,7 +13,7 @@ const LINE_FEED: u8 = b'\n';
 
 // Whether so many octets lie inside a buffer from place `at` on.
 fn has_room(room: usize, at: usize, octets: usize) -> bool
-    ensures { result ≡ hasRoom room at octets }
+    ensures { result ≡ has_room room at octets }
 {
     if room < octets {
         return false;
@@ -32,8 +32,8 @@ fn put_word(out: &mut [u8], at: usize, word: &[u8]) -> usize
 
 // Writes a number in decimal and the character behind it.
 fn put_number(out: &mut [u8], at: usize, n: u64, end: u8) -> usize
-    requires { at + length (numberText n end) ≤ length out.old }
-    ensures { Placed out.old at (numberText n end) out.new result }
+    requires { at + length (number_text n end) ≤ length out.old }
+    ensures { Placed out.old at (number_text n end) out.new result }
 {
     let k = width_of(n);
     put_digits(out, at, k, n);
@@ -43,8 +43,8 @@ fn put_number(out: &mut [u8], at: usize, n: u64, end: u8) -> usize
 
 // Writes a word, a number behind it, and the character behind that.
 fn put_named(out: &mut [u8], at: usize, word: &[u8], n: u64, end: u8) -> usize
-    requires { at + length (namedText word.now n end) ≤ length out.old }
-    ensures { Placed out.old at (namedText word.now n end) out.new result }
+    requires { at + length (named_text word.now n end) ≤ length out.old }
+    ensures { Placed out.old at (named_text word.now n end) out.new result }
 {
     let next = put_word(out, at, word);
     put_number(out, next, n, end)
@@ -52,7 +52,7 @@ fn put_named(out: &mut [u8], at: usize, word: &[u8], n: u64, end: u8) -> usize
 
 // How many octets an answer takes, with the space behind it.
 fn answer_octets(answer: BenchAnswer) -> usize
-    ensures { (result ≡ length (answerText answer)) × (result ≤ 29) }
+    ensures { (result ≡ length (answer_text answer)) × (result ≤ 29) }
 {
     match answer {
         BenchAnswer::Held => 5,
@@ -63,8 +63,8 @@ fn answer_octets(answer: BenchAnswer) -> usize
 
 // Writes an answer and a space.
 fn put_answer(out: &mut [u8], at: usize, answer: BenchAnswer) -> usize
-    requires { at + length (answerText answer) ≤ length out.old }
-    ensures { Placed out.old at (answerText answer) out.new result }
+    requires { at + length (answer_text answer) ≤ length out.old }
+    ensures { Placed out.old at (answer_text answer) out.new result }
 {
     match answer {
         BenchAnswer::Held => put_word(out, at, b"held "),
@@ -75,7 +75,7 @@ fn put_answer(out: &mut [u8], at: usize, answer: BenchAnswer) -> usize
 
 // Appends the heading from place `at` on; 22, and nothing written, where it has no room.
 pub fn append_heading(out: &mut [u8], at: usize) -> Appended
-    ensures { (appendedAnswer result ≡ appendText out.old at headingText) × (out.new ≡ outputAfter (appendedAnswer result) out.old at headingText) }
+    ensures { (appended_answer result ≡ append_text out.old at heading_text) × (out.new ≡ output_after (appended_answer result) out.old at heading_text) }
 {
     if !has_room(out.len(), at, 27) {
         return Appended::Refused(refusals::OUTPUT_TOO_SMALL);
@@ -92,7 +92,7 @@ pub fn append_answer(
     out: &mut [u8],
     at: usize,
 ) -> Appended
-    ensures { (appendedAnswer result ≡ appendText out.old at (answerLineText line answer octets dropped)) × (out.new ≡ outputAfter (appendedAnswer result) out.old at (answerLineText line answer octets dropped)) }
+    ensures { (appended_answer result ≡ append_text out.old at (answer_line_text line answer octets dropped)) × (out.new ≡ output_after (appended_answer result) out.old at (answer_line_text line answer octets dropped)) }
 {
     let n = width_of(line) + answer_octets(answer) + width_of(octets) + width_of(dropped) + 3;
     if !has_room(out.len(), at, n) {
@@ -106,7 +106,7 @@ pub fn append_answer(
 
 // Appends the totals from place `at` on; 22, and nothing written, where they have no room.
 pub fn append_totals(totals: Totals, out: &mut [u8], at: usize) -> Appended
-    ensures { (appendedAnswer result ≡ appendText out.old at (totalsText totals)) × (out.new ≡ outputAfter (appendedAnswer result) out.old at (totalsText totals)) }
+    ensures { (appended_answer result ≡ append_text out.old at (totals_text totals)) × (out.new ≡ output_after (appended_answer result) out.old at (totals_text totals)) }
 {
     let n = width_of(totals.accepted)
         + width_of(totals.delivered)

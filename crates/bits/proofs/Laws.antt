@@ -30,12 +30,12 @@ digits_above zero hi lo = refl
 digits_above (suc w) hi lo = rw (block_half, block_odd) (ap (λ (l : List ℕ). l ++ (lo % 2 ∷ [])) (digits_above w hi (lo / 2)))
 
 -- fields in a row, most significant first
-pub digits-add : (a b v : ℕ) → digits (a + b) v ≡ digits a (v / 2 ^ b) ++ digits b v
+pub digits_add : (a b v : ℕ) → digits (a + b) v ≡ digits a (v / 2 ^ b) ++ digits b v
 unfolding digits
-digits-add a zero v = rw (add-zero, div-one) (sym (append-nil (digits a v)))
-digits-add a (suc b) v =
+digits_add a zero v = rw (add-zero, div-one) (sym (append-nil (digits a v)))
+digits_add a (suc b) v =
     let e : v / 2 / 2 ^ b ≡ v / 2 ^ suc b = shr-shr v 1 b ∙ ap (λ (k : ℕ). v / 2 ^ k) (one_more b) in
-    rw add-suc (ap (λ (l : List ℕ). l ++ (v % 2 ∷ [])) (digits-add a b (v / 2) ∙ ap (λ (n : ℕ). digits a n ++ digits b (v / 2)) e)
+    rw add-suc (ap (λ (l : List ℕ). l ++ (v % 2 ∷ [])) (digits_add a b (v / 2) ∙ ap (λ (n : ℕ). digits a n ++ digits b (v / 2)) e)
     ∙ append_assoc (digits a (v / 2 ^ suc b)) (digits b (v / 2)) (v % 2 ∷ []))
   where
     one_more : (b : ℕ) → 1 + b ≡ suc b
@@ -44,44 +44,44 @@ digits-add a (suc b) v =
 -- ---- lists of bits and of octets
 
 module _ {m : ℕ} where
-  pub below-nil : 0 < m → Below m []
-  below-nil h = record { each = λ i. none i }
+  pub below_nil : 0 < m → Below m []
+  below_nil h = record { each = λ i. none i }
     where
       none : (i : ℕ) → get_or [] i 0 < m
       none zero = h
       none (suc i) = h
 
-  pub below-cons : {a : ℕ} {l : List ℕ} → a < m → Below m l → Below m (a ∷ l)
-  below-cons {a} {l} h k = record { each = λ i. one i }
+  pub below_cons : {a : ℕ} {l : List ℕ} → a < m → Below m l → Below m (a ∷ l)
+  below_cons {a} {l} h k = record { each = λ i. one i }
     where
       one : (i : ℕ) → get_or (a ∷ l) i 0 < m
       one zero = h
       one (suc i) = k.each i
 
-  pub below-tail : {a : ℕ} {l : List ℕ} → Below m (a ∷ l) → Below m l
-  below-tail h = record { each = λ i. h.each (suc i) }
+  pub below_tail : {a : ℕ} {l : List ℕ} → Below m (a ∷ l) → Below m l
+  below_tail h = record { each = λ i. h.each (suc i) }
 
-  pub below-append : {l r : List ℕ} → Below m l → Below m r → Below m (l ++ r)
-  below-append {l = []} h k = k
-  below-append {l = a ∷ l} h k = below-cons (h.each zero) (below-append (below-tail h) k)
+  pub below_append : {l r : List ℕ} → Below m l → Below m r → Below m (l ++ r)
+  below_append {l = []} h k = k
+  below_append {l = a ∷ l} h k = below_cons (h.each zero) (below_append (below_tail h) k)
 
-  pub below-drop : (n : ℕ) {l : List ℕ} → Below m l → Below m (drop n l)
-  below-drop n h = record { each = λ i. rw get_or-drop (h.each (n + i)) }
+  pub below_drop : (n : ℕ) {l : List ℕ} → Below m l → Below m (drop n l)
+  below_drop n h = record { each = λ i. rw get_or-drop (h.each (n + i)) }
 
-  pub below-take : (n : ℕ) {l : List ℕ} → Below m l → Below m (take n l)
-  below-take zero h = below-nil (omega (arith, h.each 0))
-  below-take (suc n) {l = []} h = h
-  below-take (suc n) {l = a ∷ l} h = below-cons (h.each zero) (below-take n (below-tail h))
+  pub below_take : (n : ℕ) {l : List ℕ} → Below m l → Below m (take n l)
+  below_take zero h = below_nil (omega (arith, h.each 0))
+  below_take (suc n) {l = []} h = h
+  below_take (suc n) {l = a ∷ l} h = below_cons (h.each zero) (below_take n (below_tail h))
 
-pub digits-small : (w v : ℕ) → Bits (digits w v)
+pub digits_small : (w v : ℕ) → Bits (digits w v)
 unfolding digits
-digits-small zero v = below-nil (omega arith)
-digits-small (suc w) v = below-append (digits-small w (v / 2)) (below-cons (omega arith) (below-nil (omega arith)))
+digits_small zero v = below_nil (omega arith)
+digits_small (suc w) v = below_append (digits_small w (v / 2)) (below_cons (omega arith) (below_nil (omega arith)))
 
 pub bits_small : (s : List ℕ) → Bits (bits s)
 unfolding bits
-bits_small [] = below-nil (omega arith)
-bits_small (o ∷ s) = below-append (digits-small 8 o) (bits_small s)
+bits_small [] = below_nil (omega arith)
+bits_small (o ∷ s) = below_append (digits_small 8 o) (bits_small s)
 
 -- ---- numbers
 
@@ -93,11 +93,11 @@ number_lt (suc w) l h =
     let b = h.each w in
     omega arith
 
-pub number-add : (w r : ℕ) (l : List ℕ) → number (w + r) l ≡ number w l * 2 ^ r + number r (drop w l)
+pub number_add : (w r : ℕ) (l : List ℕ) → number (w + r) l ≡ number w l * 2 ^ r + number r (drop w l)
 unfolding number
-number-add w zero l = rw add-zero (omega arith)
-number-add w (suc r) l =
-    let i = number-add w r l in
+number_add w zero l = rw add-zero (omega arith)
+number_add w (suc r) l =
+    let i = number_add w r l in
     let e : number w l * 2 ^ suc r ≡ number w l * 2 ^ r * 2 = rw (pow-suc 2 r, ← mul_assoc) in
     rw (add-suc, get_or-drop, e) (omega arith)
 
@@ -115,17 +115,17 @@ number_digits (suc w) v q =
 
 -- ---- bits of octets
 
-pub length-bits : (s : List ℕ) → length (bits s) ≡ 8 * length s
+pub length_bits : (s : List ℕ) → length (bits s) ≡ 8 * length s
 unfolding bits
-length-bits [] = refl
-length-bits (o ∷ s) =
-    let h = length-bits s in
+length_bits [] = refl
+length_bits (o ∷ s) =
+    let h = length_bits s in
     omega (arith, length-append (digits 8 o) (bits s), length_digits 8 o)
 
-pub bits-append : (s t : List ℕ) → bits (s ++ t) ≡ bits s ++ bits t
+pub bits_append : (s t : List ℕ) → bits (s ++ t) ≡ bits s ++ bits t
 unfolding bits
-bits-append [] t = refl
-bits-append (o ∷ s) t = ap (λ (l : List ℕ). digits 8 o ++ l) (bits-append s t) ∙ sym (append_assoc (digits 8 o) (bits s) (bits t))
+bits_append [] t = refl
+bits_append (o ∷ s) t = ap (λ (l : List ℕ). digits 8 o ++ l) (bits_append s t) ∙ sym (append_assoc (digits 8 o) (bits s) (bits t))
 
 pub drop_bits : (i : ℕ) (s : List ℕ) → drop (8 * i) (bits s) ≡ bits (drop i s)
 unfolding bits
@@ -135,35 +135,35 @@ drop_bits (suc i) (o ∷ s) =
     let e : 8 * suc i ≡ 8 + 8 * i = omega arith in
     rw (e, ← drop-drop (8 * i) 8 (digits 8 o ++ bits s), drop_at (digits 8 o) (bits s) 8 (length_digits 8 o)) (drop_bits i s)
 
-pub take-bits : (i : ℕ) (s : List ℕ) → take (8 * i) (bits s) ≡ bits (take i s)
+pub take_bits : (i : ℕ) (s : List ℕ) → take (8 * i) (bits s) ≡ bits (take i s)
 unfolding bits
-take-bits zero s = refl
-take-bits (suc i) [] = take-nil (8 * suc i)
-take-bits (suc i) (o ∷ s) =
+take_bits zero s = refl
+take_bits (suc i) [] = take-nil (8 * suc i)
+take_bits (suc i) (o ∷ s) =
     let e : 8 * suc i ≡ length (digits 8 o) + 8 * i = omega (arith, length_digits 8 o) in
-    rw (e, take-append-add) (ap (λ (l : List ℕ). digits 8 o ++ l) (take-bits i s))
+    rw (e, take-append-add) (ap (λ (l : List ℕ). digits 8 o ++ l) (take_bits i s))
 
 -- octets are the numbers of their bits
-pub octets-bits : (s q : List ℕ) → Octets s → octets (length s) (bits s ++ q) ≡ s
+pub octets_bits : (s q : List ℕ) → Octets s → octets (length s) (bits s ++ q) ≡ s
 unfolding octets bits
-octets-bits [] q h = refl
-octets-bits (o ∷ s) q h =
+octets_bits [] q h = refl
+octets_bits (o ∷ s) q h =
     let e : (digits 8 o ++ bits s) ++ q ≡ digits 8 o ++ (bits s ++ q) = append_assoc (digits 8 o) (bits s) q in
     let a : o < 256 = h.each zero in
     let n : number 8 (digits 8 o ++ (bits s ++ q)) ≡ o = number_digits 8 o (bits s ++ q) ∙ mod-eq_of_lt a in
-    rw (e, n, drop_at (digits 8 o) (bits s ++ q) 8 (length_digits 8 o)) (ap (λ (l : List ℕ). o ∷ l) (octets-bits s q (below-tail h)))
+    rw (e, n, drop_at (digits 8 o) (bits s ++ q) 8 (length_digits 8 o)) (ap (λ (l : List ℕ). o ∷ l) (octets_bits s q (below_tail h)))
 
 -- the octets at the front, from their bits
-pub octets-take : (s : List ℕ) (n : ℕ) (l q : List ℕ) → Octets s → n ≤ length s → bits s ≡ l ++ q → length l ≡ 8 * n → octets n l ≡ take n s
-octets-take s n l q h k e f =
-    let a : l ≡ bits (take n s) = sym (take_at l q (8 * n) f) ∙ ap (take (8 * n)) (sym e) ∙ take-bits n s in
+pub octets_take : (s : List ℕ) (n : ℕ) (l q : List ℕ) → Octets s → n ≤ length s → bits s ≡ l ++ q → length l ≡ 8 * n → octets n l ≡ take n s
+octets_take s n l q h k e f =
+    let a : l ≡ bits (take n s) = sym (take_at l q (8 * n) f) ∙ ap (take (8 * n)) (sym e) ∙ take_bits n s in
     let m : length (take n s) ≡ n = length-take-le n s k in
-    ap (octets n) (a ∙ sym (append-nil (bits (take n s)))) ∙ ap (λ (i : ℕ). octets i (bits (take n s) ++ [])) (sym m) ∙ octets-bits (take n s) [] (below-take n h)
+    ap (octets n) (a ∙ sym (append-nil (bits (take n s)))) ∙ ap (λ (i : ℕ). octets i (bits (take n s) ++ [])) (sym m) ∙ octets_bits (take n s) [] (below_take n h)
 
-pub length-octets : (n : ℕ) (l : List ℕ) → length (octets n l) ≡ n
+pub length_octets : (n : ℕ) (l : List ℕ) → length (octets n l) ≡ n
 unfolding octets
-length-octets zero l = refl
-length-octets (suc n) l = ap suc (length-octets n (drop 8 l))
+length_octets zero l = refl
+length_octets (suc n) l = ap suc (length_octets n (drop 8 l))
 
 -- the digits of the number of bits are those bits
 pub digits_number : (w : ℕ) (l : List ℕ) → Bits l → w ≤ length l → digits w (number w l) ≡ take w l
@@ -176,72 +176,72 @@ digits_number (suc w) l h k =
     rw (q, r, take-suc l w 0 k) (ap (λ (m : List ℕ). m ++ (get_or l w 0 ∷ [])) (digits_number w l h (omega arith)))
 
 -- whole octets of bits, and back
-pub bits-octets : (n : ℕ) (l : List ℕ) → Bits l → length l ≡ 8 * n → bits (octets n l) ≡ l
+pub bits_octets : (n : ℕ) (l : List ℕ) → Bits l → length l ≡ 8 * n → bits (octets n l) ≡ l
 unfolding octets bits
-bits-octets zero [] h k = refl
-bits-octets zero (b ∷ l) h k = absurd (omega arith)
-bits-octets (suc n) l h k =
+bits_octets zero [] h k = refl
+bits_octets zero (b ∷ l) h k = absurd (omega arith)
+bits_octets (suc n) l h k =
     let d : length (drop 8 l) ≡ 8 * n = omega (arith, length-drop 8 l) in
-    rw (bits-octets n (drop 8 l) (below-drop 8 h) d, digits_number 8 l h (omega arith)) (take-append-drop 8 l)
+    rw (bits_octets n (drop 8 l) (below_drop 8 h) d, digits_number 8 l h (omega arith)) (take-append-drop 8 l)
 
-pub octets-small : (n : ℕ) (l : List ℕ) → Bits l → Octets (octets n l)
+pub octets_small : (n : ℕ) (l : List ℕ) → Bits l → Octets (octets n l)
 unfolding octets
-octets-small zero l h = below-nil (omega arith)
-octets-small (suc n) l h = below-cons (number_lt 8 l h) (octets-small n (drop 8 l) (below-drop 8 h))
+octets_small zero l h = below_nil (omega arith)
+octets_small (suc n) l h = below_cons (number_lt 8 l h) (octets_small n (drop 8 l) (below_drop 8 h))
 
 -- ---- fields
 
 pub field_lt : (s : List ℕ) (at w : ℕ) → field s at w < 2 ^ w
 unfolding field
-field_lt s at w = number_lt w (drop at (bits s)) (below-drop at (bits_small s))
+field_lt s at w = number_lt w (drop at (bits s)) (below_drop at (bits_small s))
 
-pub field-add : (s : List ℕ) (at w r : ℕ) → field s at (w + r) ≡ field s at w * 2 ^ r + field s (at + w) r
+pub field_add : (s : List ℕ) (at w r : ℕ) → field s at (w + r) ≡ field s at w * 2 ^ r + field s (at + w) r
 unfolding field
-field-add s at w r = number-add w r (drop at (bits s)) ∙ ap (λ (l : List ℕ). number w (drop at (bits s)) * 2 ^ r + number r l) (drop-drop w at (bits s))
+field_add s at w r = number_add w r (drop at (bits s)) ∙ ap (λ (l : List ℕ). number w (drop at (bits s)) * 2 ^ r + number r l) (drop-drop w at (bits s))
 
 -- on an octet's border a field of eight bits is the octet, and 0 past the end
-pub field-octet : (s : List ℕ) (i : ℕ) → get_or s i 0 < 256 → field s (8 * i) 8 ≡ get_or s i 0
+pub field_octet : (s : List ℕ) (i : ℕ) → get_or s i 0 < 256 → field s (8 * i) 8 ≡ get_or s i 0
 unfolding field bits number
-field-octet s i h = rw (drop_bits i s) (first (drop i s) (rw (get_or-drop, add-zero) h) ∙ get_or-drop i s 0 0 ∙ ap (λ (k : ℕ). get_or s k 0) (add-zero i))
+field_octet s i h = rw (drop_bits i s) (first (drop i s) (rw (get_or-drop, add-zero) h) ∙ get_or-drop i s 0 0 ∙ ap (λ (k : ℕ). get_or s k 0) (add-zero i))
   where
     first : (s : List ℕ) → get_or s 0 0 < 256 → number 8 (bits s) ≡ get_or s 0 0
     first [] h = refl
     first (o ∷ s) h = number_digits 8 o (bits s) ∙ mod-eq_of_lt h
 
 -- a field out of a wider one: the w bits behind p, before r more
-pub field-sub : (s : List ℕ) (at p w r : ℕ) → field s at (p + w + r) / 2 ^ r % 2 ^ w ≡ field s (at + p) w
-field-sub s at p w r =
-    rw (field-add s at (p + w) r, high (field s at (p + w)) r (field_lt s (at + (p + w)) r), field-add s at p w)
+pub field_sub : (s : List ℕ) (at p w r : ℕ) → field s at (p + w + r) / 2 ^ r % 2 ^ w ≡ field s (at + p) w
+field_sub s at p w r =
+    rw (field_add s at (p + w) r, high (field s at (p + w)) r (field_lt s (at + (p + w)) r), field_add s at p w)
     (low (field s at p) w (field_lt s (at + p) w))
 
 -- a field within one octet
-pub field-in-octet : (s : List ℕ) (i p w r : ℕ) → p + w + r ≡ 8 → get_or s i 0 < 256 → field s (8 * i + p) w ≡ get_or s i 0 / 2 ^ r % 2 ^ w
-field-in-octet s i p w r e h =
-    sym (field-sub s (8 * i) p w r) ∙ ap (λ (n : ℕ). field s (8 * i) n / 2 ^ r % 2 ^ w) e ∙ ap (λ (n : ℕ). n / 2 ^ r % 2 ^ w) (field-octet s i h)
+pub field_in_octet : (s : List ℕ) (i p w r : ℕ) → p + w + r ≡ 8 → get_or s i 0 < 256 → field s (8 * i + p) w ≡ get_or s i 0 / 2 ^ r % 2 ^ w
+field_in_octet s i p w r e h =
+    sym (field_sub s (8 * i) p w r) ∙ ap (λ (n : ℕ). field s (8 * i) n / 2 ^ r % 2 ^ w) e ∙ ap (λ (n : ℕ). n / 2 ^ r % 2 ^ w) (field_octet s i h)
 
 -- at place at the bits l stand
 pub record Ahead (s : List ℕ) (at : ℕ) (l : List ℕ) : Type 0 where
   pub is : drop at (bits s) ≡ l
 
 -- reading takes a field's bits off the front of what is left
-pub field-front : {s : List ℕ} {at : ℕ} (w v : ℕ) (q : List ℕ) → Ahead s at (digits w v ++ q) → field s at w ≡ v % 2 ^ w
+pub field_front : {s : List ℕ} {at : ℕ} (w v : ℕ) (q : List ℕ) → Ahead s at (digits w v ++ q) → field s at w ≡ v % 2 ^ w
 unfolding field
-field-front w v q a = rw a.is (number_digits w v q)
+field_front w v q a = rw a.is (number_digits w v q)
 
-pub field-rest : {s : List ℕ} {at : ℕ} (w v : ℕ) (q : List ℕ) → Ahead s at (digits w v ++ q) → Ahead s (at + w) q
-field-rest {s} {at} w v q a = record { is = sym (drop-drop w at (bits s)) ∙ ap (drop w) a.is ∙ drop_at (digits w v) q w (length_digits w v) }
+pub field_rest : {s : List ℕ} {at : ℕ} (w v : ℕ) (q : List ℕ) → Ahead s at (digits w v ++ q) → Ahead s (at + w) q
+field_rest {s} {at} w v q a = record { is = sym (drop-drop w at (bits s)) ∙ ap (drop w) a.is ∙ drop_at (digits w v) q w (length_digits w v) }
 
 -- the digits of a field that was read are the bits that stood there
-pub digits-field : (s : List ℕ) (at w : ℕ) → at + w ≤ 8 * length s → digits w (field s at w) ++ drop (at + w) (bits s) ≡ drop at (bits s)
+pub digits_field : (s : List ℕ) (at w : ℕ) → at + w ≤ 8 * length s → digits w (field s at w) ++ drop (at + w) (bits s) ≡ drop at (bits s)
 unfolding field
-digits-field s at w h =
-    let n : w ≤ length (drop at (bits s)) = omega (arith, length-drop at (bits s), length-bits s) in
-    rw (digits_number w (drop at (bits s)) (below-drop at (bits_small s)) n, ← drop-drop w at (bits s)) (take-append-drop w (drop at (bits s)))
+digits_field s at w h =
+    let n : w ≤ length (drop at (bits s)) = omega (arith, length-drop at (bits s), length_bits s) in
+    rw (digits_number w (drop at (bits s)) (below_drop at (bits_small s)) n, ← drop-drop w at (bits s)) (take-append-drop w (drop at (bits s)))
 
 -- the number of bits of which the first are known
-pub number-front : (w r v : ℕ) (q : List ℕ) → number (w + r) (digits w v ++ q) ≡ v % 2 ^ w * 2 ^ r + number r q
-number-front w r v q = rw (number-add w r (digits w v ++ q), number_digits w v q, drop_at (digits w v) q w (length_digits w v))
+pub number_front : (w r v : ℕ) (q : List ℕ) → number (w + r) (digits w v ++ q) ≡ v % 2 ^ w * 2 ^ r + number r q
+number_front w r v q = rw (number_add w r (digits w v ++ q), number_digits w v q, drop_at (digits w v) q w (length_digits w v))
 
 -- what is known of a slice of u8
-pub octets-known : (l : List ℕ) → ((i : ℕ) → Fits w8 (get_or l i 0)) → Octets l
-octets-known l h = record { each = λ i. (h i).fits }
+pub octets_known : (l : List ℕ) → ((i : ℕ) → Fits w8 (get_or l i 0)) → Octets l
+octets_known l h = record { each = λ i. (h i).fits }

@@ -39,21 +39,21 @@ octets zero l = []
 octets (suc n) l = number 8 l ∷ octets n (drop 8 l)
 
 -- the octets of s with the bits l from place at on, and every other bit as it was
-unfoldable pub putBits : List ℕ → ℕ → List ℕ → List ℕ
-putBits s at l = octets (length s) (take at (bits s) ++ (l ++ drop (at + length l) (bits s)))
+unfoldable pub put_bits : List ℕ → ℕ → List ℕ → List ℕ
+put_bits s at l = octets (length s) (take at (bits s) ++ (l ++ drop (at + length l) (bits s)))
 
 -- the widest field that is read or written in one call
 abbrev pub widest : ℕ
 widest = 48
 
 -- what reading answers: a field that is wider than any reads as 0
-unfoldable pub readField : List ℕ → ℕ → ℕ → ℕ
-readField s at w = pick (leb w widest) (field s at w) 0
+unfoldable pub read_field : List ℕ → ℕ → ℕ → ℕ
+read_field s at w = pick (leb w widest) (field s at w) 0
 
 -- whether w bits from place at can be written to n octets
-unfoldable pub fieldFits : ℕ → ℕ → ℕ → Bool
-fieldFits n at w = leb w widest && leb (at + w) (8 * n)
+unfoldable pub field_fits : ℕ → ℕ → ℕ → Bool
+field_fits n at w = leb w widest && leb (at + w) (8 * n)
 
 -- the octets after writing the w low bits of v from place at on
-unfoldable pub writeField : List ℕ → ℕ → ℕ → ℕ → List ℕ
-writeField s at w v = pick (fieldFits (length s) at w) (putBits s at (digits w v)) s
+unfoldable pub write_field : List ℕ → ℕ → ℕ → ℕ → List ℕ
+write_field s at w v = pick (field_fits (length s) at w) (put_bits s at (digits w v)) s

@@ -1,6 +1,6 @@
 // Fields, by whole octets: at most seven octets hold a field's bits and are taken as one number.
 ghost use Rattle.std.specs.Prelude.{◌≡◌, ◌+◌, ◌*◌, ◌/◌, ◌%◌, ◌^◌, ◌<◌, ◌≤◌, length, get_or, take, drop, ◌++◌};
-ghost use Rattle.bits.specs.Bits.{field, digits, putBits, readField, fieldFits, writeField};
+ghost use Rattle.bits.specs.Bits.{field, digits, put_bits, read_field, field_fits, write_field};
 ghost use Rattle.bits.specs.Window.{bytes, merge};
 
 // The widest field: with up to seven bits in front of it, it lies in seven octets.
@@ -59,7 +59,7 @@ pub(crate) fn field_in(s: &[u8], first: usize, skip: usize, width: usize) -> u64
 
 // The `width` bits from bit place `at` as a number; 0 for a width above 48.
 pub fn read_field(s: &[u8], at: usize, width: usize) -> u64
-    ensures { result ≡ readField s.now at width }
+    ensures { result ≡ read_field s.now at width }
 {
     if WIDEST < width {
         return 0;
@@ -101,7 +101,7 @@ fn put_window(out: &mut [u8], first: usize, n: usize, v: u64)
 // Writes the `width` low bits of `v`, `skip` bits into octet `first`.
 pub(crate) fn put_field(out: &mut [u8], first: usize, skip: usize, width: usize, v: u64)
     requires { (skip < 8) × (width ≤ 48) × (8 * first + skip + width ≤ 8 * length out.old) }
-    ensures { out.new ≡ putBits out.old (8 * first + skip) (digits width v) }
+    ensures { out.new ≡ put_bits out.old (8 * first + skip) (digits width v) }
 {
     let n = (skip + width + 7) / 8;
     let over = n * 8 - skip - width;
@@ -111,7 +111,7 @@ pub(crate) fn put_field(out: &mut [u8], first: usize, skip: usize, width: usize,
 
 // Writes the `width` low bits of `v` from bit place `at` on. False, and nothing written, where they do not fit or are more than 48.
 pub fn write_field(out: &mut [u8], at: usize, width: usize, v: u64) -> bool
-    ensures { (result ≡ fieldFits (length out.old) at width) × (out.new ≡ writeField out.old at width v) }
+    ensures { (result ≡ field_fits (length out.old) at width) × (out.new ≡ write_field out.old at width v) }
 {
     if WIDEST < width {
         return false;

@@ -1,13 +1,13 @@
 // Octet strings that start at any bit place.
 ghost use Rattle.std.specs.Prelude.{◌≡◌, ◌++◌, ◌+◌, ◌*◌, ◌^◌, ◌<◌, ◌≤◌, length, take, drop};
 ghost use Rattle.bits.specs.Bits.{field};
-ghost use Rattle.bits.specs.Strings.{isInside, stringAt, sameOctets, sameString, copyFits, copyString, writeFits, writeString, firstBitsClear};
+ghost use Rattle.bits.specs.Strings.{is_inside, string_at, same_octets, same_string, copy_fits, copy_string, write_fits, write_string, first_bits_clear};
 
 use crate::field::{field_in, put_field};
 
 // Whether `n` octets from bit place `start` lie inside so many octets, whatever the numbers.
 pub fn inside(octets: usize, start: usize, n: usize) -> bool
-    ensures { result ≡ isInside octets start n }
+    ensures { result ≡ is_inside octets start n }
 {
     let first = start / 8 + (start % 8 + 7) / 8;
     if octets < first {
@@ -27,7 +27,7 @@ fn string_octet(s: &[u8], first: usize, skip: usize, k: usize) -> u8
 // Copies the `n` octets from octet `first` of `s` on to `out` from octet `at` on.
 fn copy_octets(s: &[u8], first: usize, n: usize, out: &mut [u8], at: usize)
     requires { (first + n ≤ length s.now) × (at + n ≤ length out.old) }
-    ensures { out.new ≡ take at out.old ++ (stringAt s.now (8 * first) n ++ drop (at + n) out.old) }
+    ensures { out.new ≡ take at out.old ++ (string_at s.now (8 * first) n ++ drop (at + n) out.old) }
 {
     let mut k: usize = 0;
     while k < n {
@@ -39,7 +39,7 @@ fn copy_octets(s: &[u8], first: usize, n: usize, out: &mut [u8], at: usize)
 // Whether the `n` octets from octet `first` of `s` on are those from octet `other` of `t` on. It goes to the end, so that it compares many at once.
 fn same_octets(s: &[u8], first: usize, t: &[u8], other: usize, n: usize) -> bool
     requires { (first + n ≤ length s.now) × (other + n ≤ length t.now) }
-    ensures { result ≡ sameOctets (stringAt s.now (8 * first) n) (stringAt t.now (8 * other) n) }
+    ensures { result ≡ same_octets (string_at s.now (8 * first) n) (string_at t.now (8 * other) n) }
 {
     let mut same = true;
     let mut k: usize = 0;
@@ -52,7 +52,7 @@ fn same_octets(s: &[u8], first: usize, t: &[u8], other: usize, n: usize) -> bool
 
 // Copies the `n` octets from bit place `start` of `s` to `out` from octet `at` on. False, and nothing copied, where either part is not inside.
 pub fn copy_string(s: &[u8], start: usize, n: usize, out: &mut [u8], at: usize) -> bool
-    ensures { (result ≡ copyFits s.now start n out.old at) × (out.new ≡ copyString s.now start n out.old at) }
+    ensures { (result ≡ copy_fits s.now start n out.old at) × (out.new ≡ copy_string s.now start n out.old at) }
 {
     if !inside(s.len(), start, n) {
         return false;
@@ -79,7 +79,7 @@ pub fn copy_string(s: &[u8], start: usize, n: usize, out: &mut [u8], at: usize) 
 
 // Whether the `n` octets from bit place `start` of `s` and those from bit place `at` of `t` are inside and the same.
 pub fn same_string(s: &[u8], start: usize, t: &[u8], at: usize, n: usize) -> bool
-    ensures { result ≡ sameString s.now start t.now at n }
+    ensures { result ≡ same_string s.now start t.now at n }
 {
     if !inside(s.len(), start, n) {
         return false;
@@ -104,7 +104,7 @@ pub fn same_string(s: &[u8], start: usize, t: &[u8], at: usize, n: usize) -> boo
 
 // Writes the `n` octets from bit place `start` of `s` to `out` from bit place `at` on. False, and nothing written, where either part is not inside.
 pub fn write_string(s: &[u8], start: usize, n: usize, out: &mut [u8], at: usize) -> bool
-    ensures { (result ≡ writeFits s.now start n out.old at) × (out.new ≡ writeString s.now start n out.old at) }
+    ensures { (result ≡ write_fits s.now start n out.old at) × (out.new ≡ write_string s.now start n out.old at) }
 {
     if !inside(s.len(), start, n) {
         return false;
@@ -127,7 +127,7 @@ pub fn write_string(s: &[u8], start: usize, n: usize, out: &mut [u8], at: usize)
 
 // Whether the `n` octets from bit place `start` of `s` are inside, and the first bit of each is 0.
 pub fn first_bits_clear(s: &[u8], start: usize, n: usize) -> bool
-    ensures { result ≡ firstBitsClear s.now start n }
+    ensures { result ≡ first_bits_clear s.now start n }
 {
     if !inside(s.len(), start, n) {
         return false;

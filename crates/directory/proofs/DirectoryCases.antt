@@ -6,8 +6,8 @@ use mathlib.Core.List.{List}
 use native.Mathlib.Omega.{arith}
 use lib.ListN.{length, get_or}
 use Rattle.refusals.specs.Check.{first_of, decided}
-use Rattle.directory.specs.Directory.{rowSound, eachSound, shareOctet, clashes, apartFrom, allApart, soundDirectory, index_of, known_in, row_of, finding, lookupRow, knowing, answer_of}
-use Rattle.directory.specs.Gathered.{with_row, gatheredFrom, list_of}
+use Rattle.directory.specs.Directory.{row_sound, each_sound, share_octet, clashes, apart_from, all_apart, sound_directory, index_of, known_in, row_of, finding, lookup_row, knowing, answer_of}
+use Rattle.directory.specs.Gathered.{with_row, gathered_from, list_of}
 use Rattle.directory.specs.DirectoryCases.{many, DirectoryCasesHold}
 
 Equal : ℕ → ℕ → Type 0
@@ -16,25 +16,25 @@ Equal m n = m ≡ n
 third : List ℕ → ℕ
 third l = get_or l 2 0
 
-pub directory-cases-hold : DirectoryCasesHold
-unfolding first_of decided rowSound eachSound shareOctet clashes apartFrom allApart soundDirectory index_of known_in row_of finding lookupRow knowing answer_of with_row gatheredFrom list_of many Equal third
-directory-cases-hold = record {
+pub directory_cases_hold : DirectoryCasesHold
+unfolding first_of decided row_sound each_sound share_octet clashes apart_from all_apart sound_directory index_of known_in row_of finding lookup_row knowing answer_of with_row gathered_from list_of many Equal third
+directory_cases_hold = record {
   soundly = refl;
   looking = refl;
   answering = refl;
   counting = refl;
   gathering = refl;
   listing = refl;
-  too_many = refl;
+  too_many_rows = refl;
   one_more = refl;
   part = record { octets = refl; block = refl; place = refl };
-  not-others = λ p. let e : Equal 0x46 0x45 = ap third p.octets in omega arith;
-  not-fewer = λ p. let e : Equal 2 3 = ap length p.octets in omega arith;
-  not-a-copy = λ p. let e : Equal 5 3 = p.block in omega arith;
-  not-elsewhere = λ p. let e : Equal 16 18 = p.place in omega arith;
-  of-factory = record { part = record { octets = refl; block = refl; place = refl } };
-  of-writable = record { part = record { octets = refl; block = refl; place = refl } };
+  not_others = λ p. let e : Equal 0x46 0x45 = ap third p.octets in omega arith;
+  not_fewer = λ p. let e : Equal 2 3 = ap length p.octets in omega arith;
+  not_a_copy = λ p. let e : Equal 5 3 = p.block in omega arith;
+  not_elsewhere = λ p. let e : Equal 16 18 = p.place in omega arith;
+  of_factory = record { part = record { octets = refl; block = refl; place = refl } };
+  of_writable = record { part = record { octets = refl; block = refl; place = refl } };
   of_none = record { part = record { octets = refl; block = refl; place = refl } };
-  of-not-sound = record { part = record { octets = refl; block = refl; place = refl } };
-  not-the-other = λ l. let e : Equal 3 4 = l.part.block in omega arith;
+  of_not_sound = record { part = record { octets = refl; block = refl; place = refl } };
+  not_the_other = λ l. let e : Equal 3 4 = l.part.block in omega arith;
 }

@@ -37,39 +37,39 @@ use Rattle.directory.specs.contracts.Row as T
 use Rattle.directory.proofs.Row.TheLaws as T'
 
 -- the type of the local
-abbrev pub rowArray : Ty
-rowArray = ty_array (lone (T.the_row).mir) 32
+abbrev pub row_array : Ty
+row_array = ty_array (lone (T.the_row).mir) 32
 
 -- the array's machine value
 abbrev one_of : List Val → Val
 one_of [] = vint w8 0
 one_of (v ∷ vs) = v
 
-abbrev pub rowsVal : List Row → Val
-rowsVal rows = one_of (array_vals (LL.vals T.the_type T'.the_laws) rows)
+abbrev pub rows_val : List Row → Val
+rows_val rows = one_of (array_vals (LL.vals T.the_type T'.the_laws) rows)
 
 module _ {M : Type 1} {𝓤 : Ura M} (𝓛 : Logic 𝓤) (l : ℕ) (rows : List Row) where
   -- the array is its rows side by side, each of which can be written
   open 𝓛 use {H}
 
-  pub rows_apart : (v : Val) → ent 𝓤 (sep 𝓤 (H.at full_share rowArray l 0 v) (sem 𝓛 ((Array T.the_row 32).own_val rows (v ∷ [])))) (sem 𝓛 (row T.the_row full_share rows l 0))
+  pub rows_apart : (v : Val) → ent 𝓤 (sep 𝓤 (H.at full_share row_array l 0 v) (sem 𝓛 ((Array T.the_row 32).own_val rows (v ∷ [])))) (sem 𝓛 (row T.the_row full_share rows l 0))
   unfolding part_of
   rows_apart v =
-      qed 𝓛 (‵ (fat full_share rowArray l 0 v) ∷ ‵ ((Array T.the_row 32).own_val rows (v ∷ [])) ∷ []) ∵
-      use1 𝓛 (‵ (cell_at full_share (rowArray ∷ []) (v ∷ []) l 0)) (𝓛.laws.at_raw full_share rowArray l 0 v) $ fjoin ! $
-      fpack ! (List Val) (λ vs. fsep (cell_at full_share (rowArray ∷ []) vs l 0) ((Array T.the_row 32).own_val rows vs)) (v ∷ []) $
+      qed 𝓛 (‵ (fat full_share row_array l 0 v) ∷ ‵ ((Array T.the_row 32).own_val rows (v ∷ [])) ∷ []) ∵
+      use1 𝓛 (‵ (cell_at full_share (row_array ∷ []) (v ∷ []) l 0)) (𝓛.laws.at_raw full_share row_array l 0 v) $ fjoin ! $
+      fpack ! (List Val) (λ vs. fsep (cell_at full_share (row_array ∷ []) vs l 0) ((Array T.the_row 32).own_val rows vs)) (v ∷ []) $
       use1 𝓛 (‵ ((arr_parts (shares T.the_row) 32).part full_share rows l 0)) (Array-apart 𝓛 T.the_row full_share tt 32 rows l 0) $ fsplit ! $ drop ! $ done !
 
   -- and the rows are the array
-  pub rows_whole : length rows ≡ 32 → ent 𝓤 (sem 𝓛 (row T.the_row full_share rows l 0)) (sep 𝓤 (H.at full_share rowArray l 0 (rowsVal rows)) (sem 𝓛 ((Array T.the_row 32).own_val rows (rowsVal rows ∷ []))))
+  pub rows_whole : length rows ≡ 32 → ent 𝓤 (sem 𝓛 (row T.the_row full_share rows l 0)) (sep 𝓤 (H.at full_share row_array l 0 (rows_val rows)) (sem 𝓛 ((Array T.the_row 32).own_val rows (rows_val rows ∷ []))))
   unfolding part_of
   rows_whole long =
       qed 𝓛 (‵ (row T.the_row full_share rows l 0) ∷ []) ∵ feq_i ! ℕ (length rows) 32 long $ fjoin ! $
       use1 𝓛 (‵ (part_at (Array T.the_row 32) full_share rows l 0)) (Array-whole 𝓛 T.the_row full_share 32 rows l 0) $ fpick ! (λ vs. fsplit ! $ move ! (1 ∷ []) $
       peeks ! (Array T.the_row 32) (Is (Array T.the_row 32)) (shows 𝓛 (Array T.the_row 32)) rows vs (λ p.
       let e = Array-Tells T.the_row (LL.vals T.the_type T'.the_laws) (LL.tells T.the_type T'.the_laws) 32 rows vs p in
-      rewrite ! 0 (λ (us : List Val). ‵ ((Array T.the_row 32).own_val rows us)) e refl $ rewrite ! 1 (λ (us : List Val). ‵ (cell_at full_share (rowArray ∷ []) us l 0)) e refl $ move ! (1 ∷ 0 ∷ []) $
-      use1 𝓛 (‵ (fat full_share rowArray l 0 (rowsVal rows))) (𝓛.laws.raw_at full_share rowArray l 0 (rowsVal rows)) $ done !))
+      rewrite ! 0 (λ (us : List Val). ‵ ((Array T.the_row 32).own_val rows us)) e refl $ rewrite ! 1 (λ (us : List Val). ‵ (cell_at full_share (row_array ∷ []) us l 0)) e refl $ move ! (1 ∷ 0 ∷ []) $
+      use1 𝓛 (‵ (fat full_share row_array l 0 (rows_val rows))) (𝓛.laws.raw_at full_share row_array l 0 (rows_val rows)) $ done !))
 
 module _ {M : Type 1} {𝓤 : Ura M} (𝓛 : Logic 𝓤) (κ : Lft) (l k : ℕ) (rows : List Row) (long : length rows ≡ 32) where
   -- the slice of the first k rows
@@ -78,34 +78,34 @@ module _ {M : Type 1} {𝓤 : Ura M} (𝓛 : Logic 𝓤) (κ : Lft) (l k : ℕ) 
   abbrev pub front : GName → Bor (List Row)
   front γ = record { ref_ptr = (l, 0); now = take k rows }
 
-  abbrev pub frontOwn : GName → Fml
-  frontOwn γ = (ShrSlice (named 0) κ T.the_row).own_val (front γ) (slice_val (l, 0) (length (take k rows)) ∷ [])
+  abbrev pub front_own : GName → Fml
+  front_own γ = (ShrSlice (named 0) κ T.the_row).own_val (front γ) (slice_val (l, 0) (length (take k rows)) ∷ [])
 
   -- what is kept: the lender's part, and the other rows
-  abbrev pub lentRows : Fml
-  lentRows = parts_f T.the_row (take k rows) l 0
+  abbrev pub lent_rows : Fml
+  lent_rows = parts_f T.the_row (take k rows) l 0
 
-  abbrev pub keptRows : Fml
-  keptRows = rest_f T.the_row k rows l
+  abbrev pub kept_rows : Fml
+  kept_rows = rest_f T.the_row k rows l
 
-  room-32 : Room T.the_row 32
-  room-32 = (lit< tt, lit< tt)
+  room_32 : Room T.the_row 32
+  room_32 = (lit< tt, lit< tt)
 
-  pub lends-front : (v : Val) → ent 𝓤 (sep 𝓤 (H.at full_share rowArray l 0 v) (sem 𝓛 ((Array T.the_row 32).own_val rows (v ∷ []))))
-      (H.⇛ (ex 𝓤 (λ (γ : GName). sep 𝓤 (sem 𝓛 (frontOwn γ)) (sep 𝓤 (A.lent κ lentRows) (sem 𝓛 keptRows)))))
-  lends-front v =
-      qed 𝓛 (‵ (fat full_share rowArray l 0 v) ∷ ‵ ((Array T.the_row 32).own_val rows (v ∷ [])) ∷ []) ∵ use2 𝓛 (‵ (row T.the_row full_share rows l 0)) (rows_apart 𝓛 l rows v) $
+  pub lends_front : (v : Val) → ent 𝓤 (sep 𝓤 (H.at full_share row_array l 0 v) (sem 𝓛 ((Array T.the_row 32).own_val rows (v ∷ []))))
+      (H.⇛ (ex 𝓤 (λ (γ : GName). sep 𝓤 (sem 𝓛 (front_own γ)) (sep 𝓤 (A.lent κ lent_rows) (sem 𝓛 kept_rows)))))
+  lends_front v =
+      qed 𝓛 (‵ (fat full_share row_array l 0 v) ∷ ‵ ((Array T.the_row 32).own_val rows (v ∷ [])) ∷ []) ∵ use2 𝓛 (‵ (row T.the_row full_share rows l 0)) (rows_apart 𝓛 l rows v) $
       rewrite ! 0 (λ (F : Fml). ‵ F) (parts-cells T.the_row full_share rows l 0) refl $
       rewrite ! 0 (λ (ys : List Row). ‵ (cells (mem T.the_row) ys l 0)) (sym (take-append-drop k rows)) refl $
-      use1 𝓛 (‵ (cells (mem T.the_row) (take k rows) l 0) ⊛ ‵ keptRows) (cut_app 𝓛 (mem T.the_row) (take k rows) (drop_l k rows) l 0) $ split ! $
+      use1 𝓛 (‵ (cells (mem T.the_row) (take k rows) l 0) ⊛ ‵ kept_rows) (cut_app 𝓛 (mem T.the_row) (take k rows) (drop_l k rows) l 0) $ split ! $
       rewrite ! 0 (λ (F : Fml). ‵ F) (sym (parts-cells T.the_row full_share (take k rows) l 0)) refl $ feq_i ! ℕ (length (take k rows)) (length (take k rows)) refl $ fjoin ! $ updating ! $
-      use1 𝓛 (later (some (λ (γ : GName). ‵ (frontOwn γ) ⊛ ‵ (flent κ lentRows)))) (lends_shr_slice 𝓛 T.the_row (named 0) κ full_share (take k rows) l 0 (Room-take T.the_row 32 k rows long room-32)) $
+      use1 𝓛 (later (some (λ (γ : GName). ‵ (front_own γ) ⊛ ‵ (flent κ lent_rows)))) (lends_shr_slice 𝓛 T.the_row (named 0) κ full_share (take k rows) l 0 (Room-take T.the_row 32 k rows long room_32)) $
       await ! tt $ pick ! (λ γ. split ! $ at_once ! $
-      show ! (λ (δ : GName). sep 𝓤 (sem 𝓛 (frontOwn δ)) (sep 𝓤 (A.lent κ lentRows) (sem 𝓛 keptRows))) γ $ frame ! $ frame ! $ done !)
+      show ! (λ (δ : GName). sep 𝓤 (sem 𝓛 (front_own δ)) (sep 𝓤 (A.lent κ lent_rows) (sem 𝓛 kept_rows))) γ $ frame ! $ frame ! $ done !)
 
-  pub front-back : ent 𝓤 (sep 𝓤 (A.dead κ) (sep 𝓤 (A.lent κ lentRows) (sem 𝓛 keptRows))) (H.⇛ (H.room rowArray l 0))
-  front-back =
-      qed 𝓛 (‵ (fdead κ) ∷ ‵ (flent κ lentRows) ∷ ‵ keptRows ∷ []) ∵ updating ! $ lent_back ! tt $ fsplit ! $ drop ! $
+  pub front_back : ent 𝓤 (sep 𝓤 (A.dead κ) (sep 𝓤 (A.lent κ lent_rows) (sem 𝓛 kept_rows))) (H.⇛ (H.room row_array l 0))
+  front_back =
+      qed 𝓛 (‵ (fdead κ) ∷ ‵ (flent κ lent_rows) ∷ ‵ kept_rows ∷ []) ∵ updating ! $ lent_back ! tt $ fsplit ! $ drop ! $
       rewrite ! 0 (λ (F : Fml). ‵ F) (parts-cells T.the_row full_share (take k rows) l 0) refl $
       use2 𝓛 (‵ (cells (mem T.the_row) (take k rows ++ drop_l k rows) l 0)) (join_app 𝓛 (mem T.the_row) (take k rows) (drop_l k rows) l 0) $
       rewrite ! 0 (λ (ys : List Row). ‵ (cells (mem T.the_row) ys l 0)) (take-append-drop k rows) refl $

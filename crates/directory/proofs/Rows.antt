@@ -13,87 +13,87 @@ use borrow.Author.Tests.{eq-eqb, ne_eqb, lt-ltb, le-ltb, le-leb, lt-leb, not-tru
 use mir.Val.{Val}
 use denote.Laws.{Is}
 use denote.Struct.Laws as LL
-use Rattle.refusals.proofs.Tests.{leb-same}
+use Rattle.refusals.proofs.Tests.{leb_same}
 use Rattle.directory.specs.declared.Row.{Row}
 use Rattle.directory.specs.declared.Directory.{Directory}
 use Rattle.directory.specs.contracts.Row as T
 use Rattle.directory.specs.contracts.Directory as D
 use Rattle.directory.proofs.Directory.TheLaws as D'
-use Rattle.directory.specs.Directory.{noRow, areaOctets, rowSound, eachSound, sameArea, shareOctet, clashes, apartFrom, allApart, index_of}
+use Rattle.directory.specs.Directory.{no_row, area_octets, row_sound, each_sound, same_area, share_octet, clashes, apart_from, all_apart, index_of}
 
 -- an array's length, out of what owning the struct tells
-pub rows-length : (d : Directory) (vs : List Val) → Is D.the_row d vs → length d.rows ≡ 32
-rows-length d vs g = sym (length-map d.rows (T.the_field).into) ∙ (LL.owed D.the_type D'.the_laws d vs g).0.1.0.1
+pub rows_length : (d : Directory) (vs : List Val) → Is D.the_row d vs → length d.rows ≡ 32
+rows_length d vs g = sym (length-map d.rows (T.the_field).into) ∙ (LL.owed D.the_type D'.the_laws d vs g).0.1.0.1
 
-ltb-same : (a b c d : ℕ) → (a < b → c < d) → (c < d → a < b) → ltb a b ≡ ltb c d
-ltb-same a b c d f g = leb-same (suc a) b (suc c) d f g
+ltb_same : (a b c d : ℕ) → (a < b → c < d) → (c < d → a < b) → ltb a b ≡ ltb c d
+ltb_same a b c d f g = leb_same (suc a) b (suc c) d f g
 
-and-true-right : (b : Bool) → b ≡ (b && true)
-and-true-right true = refl
-and-true-right false = refl
+and_true_right : (b : Bool) → b ≡ (b && true)
+and_true_right true = refl
+and_true_right false = refl
 
 -- ---- one row
 
-module _ (f w : ℕ) (row : Row) {a : ℕ} (is : a ≡ areaOctets f w row) where
-  pub id-over : 127 < row.id → false ≡ rowSound f w row
-  unfolding rowSound
-  id-over h = simp (lt-leb _ _ h)
+module _ (f w : ℕ) (row : Row) {a : ℕ} (is : a ≡ area_octets f w row) where
+  pub id_over : 127 < row.id → false ≡ row_sound f w row
+  unfolding row_sound
+  id_over h = simp (lt-leb _ _ h)
 
   module _ (i : row.id ≤ 127) where
-    pub too_long : 127 < row.length → false ≡ rowSound f w row
-    unfolding rowSound
+    pub too_long : 127 < row.length → false ≡ row_sound f w row
+    unfolding row_sound
     too_long h = simp (le-leb _ _ i, lt-leb _ _ h)
 
     module _ (l : row.length ≤ 127) where
-      pub past-area : a < row.length → false ≡ rowSound f w row
-      unfolding rowSound
-      past-area h =
-          let k : leb (row.start + row.length) (areaOctets f w row) ≡ false = lt-leb (row.start + row.length) (areaOctets f w row) (omega arith) in
+      pub past_area : a < row.length → false ≡ row_sound f w row
+      unfolding row_sound
+      past_area h =
+          let k : leb (row.start + row.length) (area_octets f w row) ≡ false = lt-leb (row.start + row.length) (area_octets f w row) (omega arith) in
           simp (le-leb _ _ i, le-leb _ _ l, k)
 
-      pub in_area : row.length ≤ a → leb row.start (a - row.length) ≡ rowSound f w row
-      unfolding rowSound
+      pub in_area : row.length ≤ a → leb row.start (a - row.length) ≡ row_sound f w row
+      unfolding row_sound
       in_area h =
-          let k = leb-same row.start (a - row.length) (row.start + row.length) (areaOctets f w row) (λ j. omega arith) (λ j. omega arith) in
+          let k = leb_same row.start (a - row.length) (row.start + row.length) (area_octets f w row) (λ j. omega arith) (λ j. omega arith) in
           k ∙ simp (le-leb _ _ i, le-leb _ _ l)
 
 -- ---- two rows
 
-module _ (a b : Row) {s : Bool} (is : s ≡ sameArea a.writable b.writable) where
-  pub other-area : not s ≡ true → false ≡ shareOctet a b
-  unfolding shareOctet
-  other-area h = simp (← is, not-true s h)
+module _ (a b : Row) {s : Bool} (is : s ≡ same_area a.writable b.writable) where
+  pub other_area : not s ≡ true → false ≡ share_octet a b
+  unfolding share_octet
+  other_area h = simp (← is, not-true s h)
 
   module _ (h : not s ≡ false) where
-    pub first-empty : a.length ≡ 0 → false ≡ shareOctet a b
-    unfolding shareOctet
-    first-empty e = simp (← is, not-false s h, le-ltb 0 a.length (omega arith))
+    pub first_empty : a.length ≡ 0 → false ≡ share_octet a b
+    unfolding share_octet
+    first_empty e = simp (← is, not-false s h, le-ltb 0 a.length (omega arith))
 
     module _ (n : a.length ≡ 0 → ⊥) where
-      pub second_empty : b.length ≡ 0 → false ≡ shareOctet a b
-      unfolding shareOctet
+      pub second_empty : b.length ≡ 0 → false ≡ share_octet a b
+      unfolding share_octet
       second_empty e = simp (← is, not-false s h, lt-ltb 0 a.length (omega arith), le-ltb 0 b.length (omega arith))
 
       module _ (m : b.length ≡ 0 → ⊥) where
-        pub first-before : a.start ≤ b.start → ltb (b.start - a.start) a.length ≡ shareOctet a b
-        unfolding shareOctet
-        first-before k =
-            let e = ltb-same (b.start - a.start) a.length b.start (a.start + a.length) (λ j. omega arith) (λ j. omega arith) in
+        pub first_before : a.start ≤ b.start → ltb (b.start - a.start) a.length ≡ share_octet a b
+        unfolding share_octet
+        first_before k =
+            let e = ltb_same (b.start - a.start) a.length b.start (a.start + a.length) (λ j. omega arith) (λ j. omega arith) in
             e ∙ simp (← is, not-false s h, lt-ltb 0 a.length (omega arith), lt-ltb 0 b.length (omega arith), lt-ltb a.start (b.start + b.length) (omega arith))
 
-        pub second-before : b.start < a.start → ltb (a.start - b.start) b.length ≡ shareOctet a b
-        unfolding shareOctet
-        second-before k =
-            let e = ltb-same (a.start - b.start) b.length a.start (b.start + b.length) (λ j. omega arith) (λ j. omega arith) in
-            e ∙ simp (← is, not-false s h, lt-ltb 0 a.length (omega arith), lt-ltb 0 b.length (omega arith), lt-ltb b.start (a.start + a.length) (omega arith)) (and-true-right (ltb a.start (b.start + b.length)))
+        pub second_before : b.start < a.start → ltb (a.start - b.start) b.length ≡ share_octet a b
+        unfolding share_octet
+        second_before k =
+            let e = ltb_same (a.start - b.start) b.length a.start (b.start + b.length) (λ j. omega arith) (λ j. omega arith) in
+            e ∙ simp (← is, not-false s h, lt-ltb 0 a.length (omega arith), lt-ltb 0 b.length (omega arith), lt-ltb b.start (a.start + a.length) (omega arith)) (and_true_right (ltb a.start (b.start + b.length)))
 
-pub clash-id : (a b : Row) → a.id ≡ b.id → true ≡ clashes a b
+pub clash_id : (a b : Row) → a.id ≡ b.id → true ≡ clashes a b
 unfolding clashes
-clash-id a b e = simp (eq-eqb _ _ e)
+clash_id a b e = simp (eq-eqb _ _ e)
 
-pub clash-octet : (a b : Row) {s : Bool} → (a.id ≡ b.id → ⊥) → s ≡ shareOctet a b → s ≡ clashes a b
+pub clash_octet : (a b : Row) {s : Bool} → (a.id ≡ b.id → ⊥) → s ≡ share_octet a b → s ≡ clashes a b
 unfolding clashes
-clash-octet a b n e = e ∙ simp (ne_eqb _ _ n)
+clash_octet a b n e = e ∙ simp (ne_eqb _ _ n)
 
 -- ---- the first n rows of an array, from row i on
 
@@ -102,72 +102,72 @@ module _ (rows : List Row) (n : ℕ) where
   from i = drop i (take n rows)
 
   module _ (long : n ≤ length rows) where
-    pub from_more : (i : ℕ) → i < n → from i ≡ get_or rows i noRow ∷ from (i + 1)
+    pub from_more : (i : ℕ) → i < n → from i ≡ get_or rows i no_row ∷ from (i + 1)
     from_more i h =
         let k = length-take-le n rows long in
-        drop-cons (take n rows) i noRow (omega arith) ∙ ap (λ (r : Row). r ∷ drop (suc i) (take n rows)) (get_or-take n rows i noRow h)
-        ∙ ap (λ (j : ℕ). get_or rows i noRow ∷ drop j (take n rows)) (sym (add-one i))
+        drop-cons (take n rows) i no_row (omega arith) ∙ ap (λ (r : Row). r ∷ drop (suc i) (take n rows)) (get_or-take n rows i no_row h)
+        ∙ ap (λ (j : ℕ). get_or rows i no_row ∷ drop j (take n rows)) (sym (add-one i))
 
-    pub from-none : (i : ℕ) → i ≡ n → from i ≡ []
-    from-none i e = ap (λ (j : ℕ). drop j (take n rows)) (e ∙ sym (length-take-le n rows long)) ∙ drop-length (take n rows)
+    pub from_none : (i : ℕ) → i ≡ n → from i ≡ []
+    from_none i e = ap (λ (j : ℕ). drop j (take n rows)) (e ∙ sym (length-take-le n rows long)) ∙ drop-length (take n rows)
 
     -- ---- tests, a row at a time
 
     module _ (f w : ℕ) where
-      each_step : (i : ℕ) → i < n → eachSound f w (from i) ≡ (rowSound f w (get_or rows i noRow) && eachSound f w (from (i + 1)))
-      unfolding eachSound
-      each_step i h = ap (eachSound f w) (from_more i h)
+      each_step : (i : ℕ) → i < n → each_sound f w (from i) ≡ (row_sound f w (get_or rows i no_row) && each_sound f w (from (i + 1)))
+      unfolding each_sound
+      each_step i h = ap (each_sound f w) (from_more i h)
 
-      module _ (i : ℕ) {b : Bool} (h : i < n) (is : b ≡ rowSound f w (get_or rows i noRow)) where
-        pub each_next : not b ≡ false → eachSound f w (from i) ≡ eachSound f w (from (i + 1))
-        each_next t = each_step i h ∙ ap (λ (x : Bool). x && eachSound f w (from (i + 1))) (sym is ∙ not-false b t)
+      module _ (i : ℕ) {b : Bool} (h : i < n) (is : b ≡ row_sound f w (get_or rows i no_row)) where
+        pub each_next : not b ≡ false → each_sound f w (from i) ≡ each_sound f w (from (i + 1))
+        each_next t = each_step i h ∙ ap (λ (x : Bool). x && each_sound f w (from (i + 1))) (sym is ∙ not-false b t)
 
-        pub each-bad : not b ≡ true → eachSound f w (from i) ≡ false
-        each-bad t = each_step i h ∙ ap (λ (x : Bool). x && eachSound f w (from (i + 1))) (sym is ∙ not-true b t)
+        pub each_bad : not b ≡ true → each_sound f w (from i) ≡ false
+        each_bad t = each_step i h ∙ ap (λ (x : Bool). x && each_sound f w (from (i + 1))) (sym is ∙ not-true b t)
 
-      pub each_none : (i : ℕ) → i ≡ n → eachSound f w (from i) ≡ true
-      unfolding eachSound
-      each_none i e = ap (eachSound f w) (from-none i e)
+      pub each_none : (i : ℕ) → i ≡ n → each_sound f w (from i) ≡ true
+      unfolding each_sound
+      each_none i e = ap (each_sound f w) (from_none i e)
 
     module _ (row : Row) where
-      apart-step : (j : ℕ) → j < n → apartFrom row (from j) ≡ (not (clashes row (get_or rows j noRow)) && apartFrom row (from (j + 1)))
-      unfolding apartFrom
-      apart-step j h = ap (apartFrom row) (from_more j h)
+      apart_step : (j : ℕ) → j < n → apart_from row (from j) ≡ (not (clashes row (get_or rows j no_row)) && apart_from row (from (j + 1)))
+      unfolding apart_from
+      apart_step j h = ap (apart_from row) (from_more j h)
 
-      module _ (j : ℕ) {b : Bool} (h : j < n) (is : b ≡ clashes row (get_or rows j noRow)) where
-        pub apart_next : b ≡ false → apartFrom row (from j) ≡ apartFrom row (from (j + 1))
-        apart_next t = apart-step j h ∙ ap (λ (x : Bool). not x && apartFrom row (from (j + 1))) (sym is ∙ t)
+      module _ (j : ℕ) {b : Bool} (h : j < n) (is : b ≡ clashes row (get_or rows j no_row)) where
+        pub apart_next : b ≡ false → apart_from row (from j) ≡ apart_from row (from (j + 1))
+        apart_next t = apart_step j h ∙ ap (λ (x : Bool). not x && apart_from row (from (j + 1))) (sym is ∙ t)
 
-        pub apart-clash : b ≡ true → apartFrom row (from j) ≡ false
-        apart-clash t = apart-step j h ∙ ap (λ (x : Bool). not x && apartFrom row (from (j + 1))) (sym is ∙ t)
+        pub apart_clash : b ≡ true → apart_from row (from j) ≡ false
+        apart_clash t = apart_step j h ∙ ap (λ (x : Bool). not x && apart_from row (from (j + 1))) (sym is ∙ t)
 
-      pub apart_none : (j : ℕ) → j ≡ n → apartFrom row (from j) ≡ true
-      unfolding apartFrom
-      apart_none j e = ap (apartFrom row) (from-none j e)
+      pub apart_none : (j : ℕ) → j ≡ n → apart_from row (from j) ≡ true
+      unfolding apart_from
+      apart_none j e = ap (apart_from row) (from_none j e)
 
-    all-step : (i : ℕ) → i < n → allApart (from i) ≡ (apartFrom (get_or rows i noRow) (from (i + 1)) && allApart (from (i + 1)))
-    unfolding allApart
-    all-step i h = ap allApart (from_more i h)
+    all_step : (i : ℕ) → i < n → all_apart (from i) ≡ (apart_from (get_or rows i no_row) (from (i + 1)) && all_apart (from (i + 1)))
+    unfolding all_apart
+    all_step i h = ap all_apart (from_more i h)
 
-    pub all-next : (i : ℕ) → i < n → apartFrom (get_or rows i noRow) (from (i + 1)) ≡ true → allApart (from i) ≡ allApart (from (i + 1))
-    all-next i h t = all-step i h ∙ ap (λ (x : Bool). x && allApart (from (i + 1))) t
+    pub all_next : (i : ℕ) → i < n → apart_from (get_or rows i no_row) (from (i + 1)) ≡ true → all_apart (from i) ≡ all_apart (from (i + 1))
+    all_next i h t = all_step i h ∙ ap (λ (x : Bool). x && all_apart (from (i + 1))) t
 
-    pub all-clash : (i : ℕ) → i < n → apartFrom (get_or rows i noRow) (from (i + 1)) ≡ false → allApart (from i) ≡ false
-    all-clash i h t = all-step i h ∙ ap (λ (x : Bool). x && allApart (from (i + 1))) t
+    pub all_clash : (i : ℕ) → i < n → apart_from (get_or rows i no_row) (from (i + 1)) ≡ false → all_apart (from i) ≡ false
+    all_clash i h t = all_step i h ∙ ap (λ (x : Bool). x && all_apart (from (i + 1))) t
 
-    pub all_none : (i : ℕ) → i ≡ n → allApart (from i) ≡ true
-    unfolding allApart
-    all_none i e = ap allApart (from-none i e)
+    pub all_none : (i : ℕ) → i ≡ n → all_apart (from i) ≡ true
+    unfolding all_apart
+    all_none i e = ap all_apart (from_none i e)
 
     module _ (id : ℕ) where
-      pub index-here : (i : ℕ) → i < n → (get_or rows i noRow).id ≡ id → index_of id (from i) ≡ 0
+      pub index_here : (i : ℕ) → i < n → (get_or rows i no_row).id ≡ id → index_of id (from i) ≡ 0
       unfolding index_of
-      index-here i h e = ap (index_of id) (from_more i h) ∙ simp (eq-eqb (get_or rows i noRow).id id e)
+      index_here i h e = ap (index_of id) (from_more i h) ∙ simp (eq-eqb (get_or rows i no_row).id id e)
 
-      pub index-next : (i : ℕ) → i < n → ((get_or rows i noRow).id ≡ id → ⊥) → index_of id (from i) ≡ suc (index_of id (from (i + 1)))
+      pub index_next : (i : ℕ) → i < n → ((get_or rows i no_row).id ≡ id → ⊥) → index_of id (from i) ≡ suc (index_of id (from (i + 1)))
       unfolding index_of
-      index-next i h e = ap (index_of id) (from_more i h) ∙ simp (ne_eqb (get_or rows i noRow).id id e)
+      index_next i h e = ap (index_of id) (from_more i h) ∙ simp (ne_eqb (get_or rows i no_row).id id e)
 
-      pub index-none : (i : ℕ) → i ≡ n → index_of id (from i) ≡ 0
+      pub index_none : (i : ℕ) → i ≡ n → index_of id (from i) ≡ 0
       unfolding index_of
-      index-none i e = ap (index_of id) (from-none i e)
+      index_none i e = ap (index_of id) (from_none i e)

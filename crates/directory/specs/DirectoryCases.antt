@@ -11,37 +11,37 @@ use Rattle.directory.specs.declared.Directory.{Directory}
 use Rattle.directory.specs.declared.KnowsAnswer.{KnowsAnswer}
 use Rattle.directory.specs.declared.KnowsAnswer.TheVariants.{Known, Refused}
 use Rattle.directory.specs.Part.{PartOf}
-use Rattle.directory.specs.Directory.{soundDirectory, index_of, row_of, finding, lookupRow, LookedUp, knowing, answer_of}
-use Rattle.directory.specs.Gathered.{noDirectory, with_row, gathered, list_of}
+use Rattle.directory.specs.Directory.{sound_directory, index_of, row_of, finding, lookup_row, LookedUp, knowing, answer_of}
+use Rattle.directory.specs.Gathered.{no_directory, with_row, gathered, list_of}
 
 -- ---- rows
 
 -- rows of the two areas; and one of the writable area that is protected
-abbrev pub inFactory : (id start length : ℕ) → Row
-inFactory id start length = record { id = id; writable = false; start = start; length = length; protected = false }
+abbrev pub in_factory : (id start length : ℕ) → Row
+in_factory id start length = record { id = id; writable = false; start = start; length = length; protected = false }
 
-abbrev pub inWritable : (id start length : ℕ) → Row
-inWritable id start length = record { id = id; writable = true; start = start; length = length; protected = false }
+abbrev pub in_writable : (id start length : ℕ) → Row
+in_writable id start length = record { id = id; writable = true; start = start; length = length; protected = false }
 
 abbrev pub guarded : (id start length : ℕ) → Row
 guarded id start length = record { id = id; writable = true; start = start; length = length; protected = true }
 
 -- all zero
 abbrev pub zeros : Row
-zeros = inFactory 0 0 0
+zeros = in_factory 0 0 0
 
 -- so many rows with ids from 0 on, without octets
 unfoldable pub many : ℕ → List Row
 many zero = []
-many (suc n) = inFactory n 0 0 ∷ many n
+many (suc n) = in_factory n 0 0 ∷ many n
 
 -- attribute 5 is two octets of the factory area, 6 the four behind it, 7 three of the writable area
 abbrev pub three : List Row
-three = inFactory 5 0 2 ∷ guarded 7 1 3 ∷ inFactory 6 2 4 ∷ []
+three = in_factory 5 0 2 ∷ guarded 7 1 3 ∷ in_factory 6 2 4 ∷ []
 
 -- the same id twice
 abbrev pub twice : List Row
-twice = inFactory 5 0 2 ∷ inFactory 6 2 4 ∷ inWritable 5 1 3 ∷ []
+twice = in_factory 5 0 2 ∷ in_factory 6 2 4 ∷ in_writable 5 1 3 ∷ []
 
 -- ---- soundness
 
@@ -64,27 +64,27 @@ soundness =
     ∷ sound 6 4 three
     ∷ unsound 5 4 three
     ∷ unsound 6 3 three
-    ∷ sound 9 0 (inFactory 1 4 5 ∷ [])
-    ∷ unsound 0 9 (inFactory 1 4 5 ∷ [])
-    ∷ unsound 3 9 (inFactory 1 4 0 ∷ [])
+    ∷ sound 9 0 (in_factory 1 4 5 ∷ [])
+    ∷ unsound 0 9 (in_factory 1 4 5 ∷ [])
+    ∷ unsound 3 9 (in_factory 1 4 0 ∷ [])
     -- ids up to 127, lengths up to 127
-    ∷ sound 6 4 (inFactory 1 0 1 ∷ inFactory 127 1 1 ∷ [])
-    ∷ unsound 6 4 (inFactory 1 0 1 ∷ inFactory 128 1 1 ∷ [])
-    ∷ sound 200 4 (inFactory 1 1 127 ∷ [])
-    ∷ unsound 200 4 (inFactory 1 1 128 ∷ [])
+    ∷ sound 6 4 (in_factory 1 0 1 ∷ in_factory 127 1 1 ∷ [])
+    ∷ unsound 6 4 (in_factory 1 0 1 ∷ in_factory 128 1 1 ∷ [])
+    ∷ sound 200 4 (in_factory 1 1 127 ∷ [])
+    ∷ unsound 200 4 (in_factory 1 1 128 ∷ [])
     -- ids differ, in both areas
     ∷ unsound 6 4 twice
-    ∷ unsound 6 4 (inFactory 6 0 2 ∷ inFactory 5 2 2 ∷ inWritable 5 0 1 ∷ [])
+    ∷ unsound 6 4 (in_factory 6 0 2 ∷ in_factory 5 2 2 ∷ in_writable 5 0 1 ∷ [])
     -- no two rows share an octet; in the two areas they may have the same places
-    ∷ unsound 6 4 (inFactory 5 0 2 ∷ inFactory 6 1 2 ∷ [])
-    ∷ unsound 6 4 (inFactory 6 1 2 ∷ inFactory 5 0 2 ∷ [])
-    ∷ unsound 6 4 (inWritable 5 1 1 ∷ inFactory 6 0 2 ∷ inWritable 7 0 3 ∷ [])
-    ∷ unsound 6 4 (inWritable 7 0 3 ∷ inFactory 6 0 2 ∷ inWritable 5 1 1 ∷ [])
-    ∷ sound 6 4 (inFactory 5 0 2 ∷ inWritable 6 1 2 ∷ [])
-    ∷ sound 6 4 (inFactory 6 2 2 ∷ inFactory 5 0 2 ∷ [])
+    ∷ unsound 6 4 (in_factory 5 0 2 ∷ in_factory 6 1 2 ∷ [])
+    ∷ unsound 6 4 (in_factory 6 1 2 ∷ in_factory 5 0 2 ∷ [])
+    ∷ unsound 6 4 (in_writable 5 1 1 ∷ in_factory 6 0 2 ∷ in_writable 7 0 3 ∷ [])
+    ∷ unsound 6 4 (in_writable 7 0 3 ∷ in_factory 6 0 2 ∷ in_writable 5 1 1 ∷ [])
+    ∷ sound 6 4 (in_factory 5 0 2 ∷ in_writable 6 1 2 ∷ [])
+    ∷ sound 6 4 (in_factory 6 2 2 ∷ in_factory 5 0 2 ∷ [])
     -- a row without octets shares none
-    ∷ sound 6 4 (inFactory 5 0 3 ∷ inFactory 6 1 0 ∷ [])
-    ∷ sound 6 4 (inFactory 6 1 0 ∷ inFactory 5 0 3 ∷ [])
+    ∷ sound 6 4 (in_factory 5 0 3 ∷ in_factory 6 1 0 ∷ [])
+    ∷ sound 6 4 (in_factory 6 1 0 ∷ in_factory 5 0 3 ∷ [])
     -- at most 32 rows
     ∷ sound 6 4 (many 32)
     ∷ unsound 6 4 (many 33)
@@ -109,7 +109,7 @@ seen c = record {
   index = index_of c.id c.rows;
   has = row_of c.id c.rows;
   finds = finding c.rows c.id;
-  gives = lookupRow 6 4 c.rows c.id;
+  gives = lookup_row 6 4 c.rows c.id;
   known = knowing 6 4 c.rows c.id;
 }
 
@@ -128,15 +128,15 @@ unknown rows id index = record {
   sees = record { index = index; has = zeros; finds = record { known = false; row = zeros }; gives = zeros; known = accepted false };
 }
 
-abbrev pub notSound : List Row → (id index : ℕ) → Row → Lookup
-notSound rows id index r = record {
+abbrev pub not_sound : List Row → (id index : ℕ) → Row → Lookup
+not_sound rows id index r = record {
   rows = rows;
   id = id;
   sees = record { index = index; has = r; finds = record { known = true; row = r }; gives = zeros; known = refused 26 };
 }
 
-abbrev pub tooMany : List Row → (id index : ℕ) → Row → Lookup
-tooMany rows id index r = record {
+abbrev pub too_many : List Row → (id index : ℕ) → Row → Lookup
+too_many rows id index r = record {
   rows = rows;
   id = id;
   sees = record { index = index; has = r; finds = record { known = false; row = zeros }; gives = zeros; known = refused 26 };
@@ -144,16 +144,16 @@ tooMany rows id index r = record {
 
 abbrev pub lookups : List Lookup
 lookups =
-    knows three 5 0 (inFactory 5 0 2)
+    knows three 5 0 (in_factory 5 0 2)
     ∷ knows three 7 1 (guarded 7 1 3)
-    ∷ knows three 6 2 (inFactory 6 2 4)
+    ∷ knows three 6 2 (in_factory 6 2 4)
     ∷ unknown three 9 3
     ∷ unknown [] 0 0
     -- the first of two
-    ∷ notSound twice 5 0 (inFactory 5 0 2)
-    ∷ notSound (inFactory 6 3 4 ∷ inWritable 5 1 1 ∷ []) 5 1 (inWritable 5 1 1)
-    ∷ knows (many 32) 30 1 (inFactory 30 0 0)
-    ∷ tooMany (many 33) 30 2 (inFactory 30 0 0)
+    ∷ not_sound twice 5 0 (in_factory 5 0 2)
+    ∷ not_sound (in_factory 6 3 4 ∷ in_writable 5 1 1 ∷ []) 5 1 (in_writable 5 1 1)
+    ∷ knows (many 32) 30 1 (in_factory 30 0 0)
+    ∷ too_many (many 33) 30 2 (in_factory 30 0 0)
     ∷ []
 
 -- an answer's own value, and a refusal's own number, whichever it is
@@ -169,7 +169,7 @@ counts d = d.count ∷ length (list_of d) ∷ []
 -- 33 for any more
 abbrev pub counted : List (List ℕ)
 counted =
-    counts noDirectory ∷ counts (gathered three) ∷ counts (gathered (many 32)) ∷ counts (gathered (many 33)) ∷ counts (gathered (many 35))
+    counts no_directory ∷ counts (gathered three) ∷ counts (gathered (many 32)) ∷ counts (gathered (many 33)) ∷ counts (gathered (many 35))
     ∷ counts (record { rows = many 32; count = 40 }) ∷ []
 
 -- ---- parts of the two areas
@@ -187,24 +187,24 @@ lent block place octets = record { ref_ptr = (block, place); ghost_name = 1; now
 -- ---- what is proved
 
 pub record DirectoryCasesHold : Type 0 where
-  pub soundly : map (λ (c : Areas). soundDirectory c.factory c.writable c.rows) soundness ≡ map (λ (c : Areas). c.sound) soundness
+  pub soundly : map (λ (c : Areas). sound_directory c.factory c.writable c.rows) soundness ≡ map (λ (c : Areas). c.sound) soundness
   pub looking : map seen lookups ≡ map (λ (c : Lookup). c.sees) lookups
   pub answering : map answer_of answers ≡ accepted true ∷ accepted false ∷ refused 26 ∷ refused 7 ∷ []
   pub counting : counted ≡ (0 ∷ 0 ∷ []) ∷ (3 ∷ 3 ∷ []) ∷ (32 ∷ 32 ∷ []) ∷ (33 ∷ 33 ∷ []) ∷ (33 ∷ 33 ∷ []) ∷ (40 ∷ 33 ∷ []) ∷ []
   -- up to 32 rows by value are those rows in order, the others zero; more are 33 of zeros, and the 32 stay as they are
-  pub gathering : (gathered three).rows ≡ inFactory 5 0 2 ∷ guarded 7 1 3 ∷ inFactory 6 2 4 ∷ replicate 29 zeros
+  pub gathering : (gathered three).rows ≡ in_factory 5 0 2 ∷ guarded 7 1 3 ∷ in_factory 6 2 4 ∷ replicate 29 zeros
   pub listing : list_of (gathered three) ≡ three
-  pub too_many : list_of (gathered (many 33)) ≡ replicate 33 zeros
-  pub one_more : (with_row (gathered (many 32)) (inFactory 40 0 0)).rows ≡ many 32
+  pub too_many_rows : list_of (gathered (many 33)) ≡ replicate 33 zeros
+  pub one_more : (with_row (gathered (many 32)) (in_factory 40 0 0)).rows ≡ many 32
   -- three octets from the third on: those octets, there; not other or fewer octets, not in another block, not at another place
   pub part : PartOf factory 2 3 (lent 3 18 (0x43 ∷ 0x44 ∷ 0x45 ∷ []))
-  pub not-others : PartOf factory 2 3 (lent 3 18 (0x43 ∷ 0x44 ∷ 0x46 ∷ [])) → ⊥
-  pub not-fewer : PartOf factory 2 3 (lent 3 18 (0x43 ∷ 0x44 ∷ [])) → ⊥
-  pub not-a-copy : PartOf factory 2 3 (lent 5 18 (0x43 ∷ 0x44 ∷ 0x45 ∷ [])) → ⊥
-  pub not-elsewhere : PartOf factory 2 3 (lent 3 16 (0x43 ∷ 0x44 ∷ 0x45 ∷ [])) → ⊥
+  pub not_others : PartOf factory 2 3 (lent 3 18 (0x43 ∷ 0x44 ∷ 0x46 ∷ [])) → ⊥
+  pub not_fewer : PartOf factory 2 3 (lent 3 18 (0x43 ∷ 0x44 ∷ [])) → ⊥
+  pub not_a_copy : PartOf factory 2 3 (lent 5 18 (0x43 ∷ 0x44 ∷ 0x45 ∷ [])) → ⊥
+  pub not_elsewhere : PartOf factory 2 3 (lent 3 16 (0x43 ∷ 0x44 ∷ 0x45 ∷ [])) → ⊥
   -- attributes 5 and 7; the empty part at the factory area's front for one that is unknown, and for rows that are not sound
-  pub of-factory : LookedUp three factory writable 5 (lent 3 16 (0x41 ∷ 0x42 ∷ []))
-  pub of-writable : LookedUp three factory writable 7 (lent 4 41 (0x52 ∷ 0x53 ∷ 0x54 ∷ []))
+  pub of_factory : LookedUp three factory writable 5 (lent 3 16 (0x41 ∷ 0x42 ∷ []))
+  pub of_writable : LookedUp three factory writable 7 (lent 4 41 (0x52 ∷ 0x53 ∷ 0x54 ∷ []))
   pub of_none : LookedUp three factory writable 9 (lent 3 16 [])
-  pub of-not-sound : LookedUp twice factory writable 5 (lent 3 16 [])
-  pub not-the-other : LookedUp three factory writable 7 (lent 3 17 (0x42 ∷ 0x43 ∷ 0x44 ∷ [])) → ⊥
+  pub of_not_sound : LookedUp twice factory writable 5 (lent 3 16 [])
+  pub not_the_other : LookedUp three factory writable 7 (lent 3 17 (0x42 ∷ 0x43 ∷ 0x44 ∷ [])) → ⊥

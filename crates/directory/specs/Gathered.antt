@@ -4,25 +4,25 @@ use Rattle.std.specs.Prelude.{◌+◌, List, [], ◌∷◌, ltb, leb, take, set,
 use Rattle.refusals.specs.Check.{pick}
 use Rattle.directory.specs.declared.Row.{Row}
 use Rattle.directory.specs.declared.Directory.{Directory}
-use Rattle.directory.specs.Directory.{noRow, mostRows}
+use Rattle.directory.specs.Directory.{no_row, most_rows}
 
-abbrev pub noDirectory : Directory
-noDirectory = record { rows = replicate 32 noRow; count = 0 }
+abbrev pub no_directory : Directory
+no_directory = record { rows = replicate 32 no_row; count = 0 }
 
 -- one row more; a thirty-third makes the count 33, and is not kept
 unfoldable pub with_row : Directory → Row → Directory
 with_row d r =
-    pick (ltb d.count mostRows)
+    pick (ltb d.count most_rows)
     (record { rows = set d.rows d.count r; count = d.count + 1 })
     (record { rows = d.rows; count = 33 })
 
-unfoldable pub gatheredFrom : Directory → List Row → Directory
-gatheredFrom d [] = d
-gatheredFrom d (r ∷ rs) = gatheredFrom (with_row d r) rs
+unfoldable pub gathered_from : Directory → List Row → Directory
+gathered_from d [] = d
+gathered_from d (r ∷ rs) = gathered_from (with_row d r) rs
 
 abbrev pub gathered : List Row → Directory
-gathered rs = gatheredFrom noDirectory rs
+gathered rs = gathered_from no_directory rs
 
 -- the rows that a directory by value stands for; too many are 33
 unfoldable pub list_of : Directory → List Row
-list_of d = pick (leb d.count mostRows) (take d.count d.rows) (replicate 33 noRow)
+list_of d = pick (leb d.count most_rows) (take d.count d.rows) (replicate 33 no_row)

@@ -4,8 +4,8 @@
 ghost use Rattle.std.specs.Prelude.{◌≡◌, ◌+◌, ◌≤◌, ltb, length, take};
 ghost use Rattle.refusals.specs.Check.{pick};
 ghost use Rattle.directory.specs.Part.{PartOf};
-ghost use Rattle.directory.specs.Directory.{noRow, mostRows, areaOctets, rowSound, eachSound, sameArea, shareOctet, clashes, allApart, soundDirectory, finding, lookupRow, LookedUp, knowing, answer_of};
-ghost use Rattle.directory.specs.Gathered.{noDirectory, with_row, gathered, list_of};
+ghost use Rattle.directory.specs.Directory.{no_row, most_rows, area_octets, row_sound, each_sound, same_area, share_octet, clashes, all_apart, sound_directory, finding, lookup_row, LookedUp, knowing, answer_of};
+ghost use Rattle.directory.specs.Gathered.{no_directory, with_row, gathered, list_of};
 
 // 01's attribute row. A start and a length count octets. The two long fields stand first, so that the only gap is behind the last one: a directory is then
 // copied as one block.
@@ -47,7 +47,7 @@ pub const LARGEST_ID: u8 = 127;
 pub const LONGEST_ROW: usize = 127;
 
 fn no_row() -> Row
-    ensures { result ≡ noRow }
+    ensures { result ≡ no_row }
 {
     Row {
         id: 0,
@@ -62,7 +62,7 @@ fn no_row() -> Row
 
 // How many octets the row's area has.
 fn area_octets(row: Row, factory: usize, writable: usize) -> usize
-    ensures { result ≡ areaOctets factory writable row }
+    ensures { result ≡ area_octets factory writable row }
 {
     if row.writable {
         return writable;
@@ -71,7 +71,7 @@ fn area_octets(row: Row, factory: usize, writable: usize) -> usize
 }
 
 fn row_sound(row: Row, factory: usize, writable: usize) -> bool
-    ensures { result ≡ rowSound factory writable row }
+    ensures { result ≡ row_sound factory writable row }
 {
     let area = area_octets(row, factory, writable);
     let start = row.start;
@@ -89,7 +89,7 @@ fn row_sound(row: Row, factory: usize, writable: usize) -> bool
 }
 
 fn same_area(a: bool, b: bool) -> bool
-    ensures { result ≡ sameArea a b }
+    ensures { result ≡ same_area a b }
 {
     if a {
         return b;
@@ -98,7 +98,7 @@ fn same_area(a: bool, b: bool) -> bool
 }
 
 fn share_octet(a: Row, b: Row) -> bool
-    ensures { result ≡ shareOctet a b }
+    ensures { result ≡ share_octet a b }
 {
     let first = a.start;
     let second = b.start;
@@ -128,7 +128,7 @@ fn clash(a: Row, b: Row) -> bool
 
 fn each_sound(d: Directory, factory: usize, writable: usize) -> bool
     requires { d.count ≤ 32 }
-    ensures { result ≡ eachSound factory writable (take d.count d.rows) }
+    ensures { result ≡ each_sound factory writable (take d.count d.rows) }
 {
     let n = d.count;
     let mut i: usize = 0;
@@ -145,7 +145,7 @@ fn each_sound(d: Directory, factory: usize, writable: usize) -> bool
 // At most 32 rows, so at most 496 pairs.
 fn all_apart(d: Directory) -> bool
     requires { d.count ≤ 32 }
-    ensures { result ≡ allApart (take d.count d.rows) }
+    ensures { result ≡ all_apart (take d.count d.rows) }
 {
     let n = d.count;
     let mut i: usize = 0;
@@ -166,7 +166,7 @@ fn all_apart(d: Directory) -> bool
 
 // Whether the directory is sound for areas of so many octets (26).
 pub fn sound_in(d: Directory, factory: usize, writable: usize) -> bool
-    ensures { result ≡ soundDirectory factory writable (list_of d) }
+    ensures { result ≡ sound_directory factory writable (list_of d) }
 {
     if MOST_ROWS < d.count {
         return false;
@@ -206,7 +206,7 @@ pub fn find(d: Directory, id: u16) -> Found
 
 // The row whose part lookup gives.
 pub fn row_for(d: Directory, factory: usize, writable: usize, id: u8) -> Row
-    ensures { (result ≡ lookupRow factory writable (list_of d) id) × (result.start + result.length ≤ areaOctets factory writable result) }
+    ensures { (result ≡ lookup_row factory writable (list_of d) id) × (result.start + result.length ≤ area_octets factory writable result) }
 {
     if !sound_in(d, factory, writable) {
         return no_row();
@@ -250,7 +250,7 @@ fn knows_in(d: Directory, factory: usize, writable: usize, id: u8) -> KnowsAnswe
 // ---- the lent rows
 
 pub fn empty() -> Directory
-    ensures { result ≡ noDirectory }
+    ensures { result ≡ no_directory }
 {
     Directory {
         rows: [no_row(); 32],
@@ -276,7 +276,7 @@ pub fn with_row(d: Directory, row: Row) -> Directory
 
 // How many of so many rows are kept.
 fn kept(n: usize) -> usize
-    ensures { result ≡ pick (ltb mostRows n) mostRows n }
+    ensures { result ≡ pick (ltb most_rows n) most_rows n }
 {
     if MOST_ROWS < n {
         return MOST_ROWS;
@@ -286,7 +286,7 @@ fn kept(n: usize) -> usize
 
 // The directory of so many rows, of which the array has the first 32.
 fn directory_of(rows: [Row; 32], n: usize) -> Directory
-    ensures { result ≡ record { rows = rows; count = pick (ltb mostRows n) 33 n } }
+    ensures { result ≡ record { rows = rows; count = pick (ltb most_rows n) 33 n } }
 {
     let mut count = n;
     if MOST_ROWS < n {

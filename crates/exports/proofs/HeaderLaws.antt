@@ -8,108 +8,108 @@ use lib.ListN.{length}
 use lib.Dec.{eqb, ltb}
 use borrow.Author.Tests.{ne_eqb, lt-ltb, ltb-true, ltb-false}
 use Rattle.refusals.specs.Check.{pick, first_of, accepted, decided}
-use Rattle.refusals.proofs.Tests.{by_cases, numbersTo, first-le}
+use Rattle.refusals.proofs.Tests.{by_cases, numbers_to, first_le}
 use Rattle.bits.specs.Bits.{Octets}
 use Rattle.header.specs.declared.Header.{Header}
 use Rattle.header.specs.declared.HeaderWritten.{HeaderWritten}
-use Rattle.header.specs.Header.{Fields, bit_of, endBit, lengthFor, headerOf, headerLength, readRefusal, readHeader, writeRefusal, writeHeader, writeAnswer, outputAfter}
+use Rattle.header.specs.Header.{Fields, bit_of, end_bit, length_for, header_of, header_length, read_refusal, read_header, write_refusal, write_header, write_answer, output_after}
 use Rattle.header.proofs.WritingBack.{again}
-use Rattle.words.specs.Answer.{answerNumber, SaysRefused, UnpackingAnswer}
-use Rattle.words.specs.Word.{narrowTo}
-use Rattle.words.proofs.Answers.{unpacking-answer}
-use Rattle.words.proofs.Words.{narrow-small, narrow-large}
-use Rattle.exports.specs.Headers.{sizeAndMark, readNumber, headerFrom, writtenNumber, HeaderSays, ReadSays, WrittenSays, UnpackingRead, UnpackingWritten, LargeNumber}
-use Rattle.exports.proofs.Saying.{says, says-refused}
+use Rattle.words.specs.Answer.{answer_number, SaysRefused, UnpackingAnswer}
+use Rattle.words.specs.Word.{narrow_to}
+use Rattle.words.proofs.Answers.{unpacking_answer}
+use Rattle.words.proofs.Words.{narrow_small, narrow_large}
+use Rattle.exports.specs.Headers.{size_and_mark, read_number, header_from, written_number, HeaderSays, ReadSays, WrittenSays, UnpackingRead, UnpackingWritten, LargeNumber}
+use Rattle.exports.proofs.Saying.{says, says_refused}
 
 -- a header has one to three octets
-length-small : (s : List ℕ) → headerLength s ≤ 3
-unfolding headerLength
-length-small s = go (eqb (endBit s 0) 1) (eqb (endBit s 1) 1)
+length_small : (s : List ℕ) → header_length s ≤ 3
+unfolding header_length
+length_small s = go (eqb (end_bit s 0) 1) (eqb (end_bit s 1) 1)
   where
     go : (a b : Bool) → pick a 1 (pick b 2 3) ≤ 3
     go true b = omega arith
     go false true = omega arith
     go false false = omega arith
 
-size_is : (s : List ℕ) (n : ℕ) (f : Fields) → decided n (record { header = headerOf s; size = headerLength s }) ≡ accepted f → f.size ≡ headerLength s
+size_is : (s : List ℕ) (n : ℕ) (f : Fields) → decided n (record { header = header_of s; size = header_length s }) ≡ accepted f → f.size ≡ header_length s
 unfolding decided
-size_is s zero f e = let q : ◌≡◌ {A = Fields} (record { header = headerOf s; size = headerLength s }) f = cc in ap (λ (x : Fields). x.size) (sym q)
+size_is s zero f e = let q : ◌≡◌ {A = Fields} (record { header = header_of s; size = header_length s }) f = cc in ap (λ (x : Fields). x.size) (sym q)
 size_is s (suc n) f e = let z : ◌≡◌ {A = ℕ} 0 1 = cc in absurd (omega arith)
 
-mark-small : (last : Bool) → bit_of last ≤ 1
-mark-small true = omega arith
-mark-small false = omega arith
+mark_small : (last : Bool) → bit_of last ≤ 1
+mark_small true = omega arith
+mark_small false = omega arith
 
-header-says : (s : List ℕ) (f : Fields) → Octets s → readHeader s ≡ accepted f → HeaderSays (readNumber (accepted f)) f
-unfolding UnpackingAnswer readHeader readNumber
-header-says s f octets e =
+header_says : (s : List ℕ) (f : Fields) → Octets s → read_header s ≡ accepted f → HeaderSays (read_number (accepted f)) f
+unfolding UnpackingAnswer read_header read_number
+header_says s f octets e =
     let range = (again s f octets e).in_range in
-    let size : f.size ≤ 3 = omega (arith, size_is s (readRefusal s) f e, length-small s) in
-    let mark = mark-small f.header.last in
+    let size : f.size ≤ 3 = omega (arith, size_is s (read_refusal s) f e, length_small s) in
+    let mark = mark_small f.header.last in
     let t =
-    unpacking-answer 0 f.header.number f.header.counter (sizeAndMark f.size f.header.last) (omega arith) (omega (arith, range.number)) (omega (arith, range.counter)) (omega (arith, mark)) in
+    unpacking_answer 0 f.header.number f.header.counter (size_and_mark f.size f.header.last) (omega arith) (omega (arith, range.number)) (omega (arith, range.counter)) (omega (arith, mark)) in
     record {
       number_is = t.number_is;
-      kind-is = t.kind-is;
-      first-is = t.first-is;
+      kind_is = t.kind_is;
+      first_is = t.first_is;
       size_is = omega (arith, t.second_is, mark, size);
-      last-is = omega (arith, t.second_is, mark, size);
+      last_is = omega (arith, t.second_is, mark, size);
     }
 
 -- refusals are the checks' numbers, none above 23
-refusal-says : (n : ℕ) → suc n ≤ 23 → SaysRefused (answerNumber (suc n) 0 0 0) (suc n) 0
-refusal-says n h = says-refused (suc n) 0 (ne_eqb (suc n) 0 (λ e. omega (arith, e))) (omega arith) (omega arith)
+refusal_says : (n : ℕ) → suc n ≤ 23 → SaysRefused (answer_number (suc n) 0 0 0) (suc n) 0
+refusal_says n h = says_refused (suc n) 0 (ne_eqb (suc n) 0 (λ e. omega (arith, e))) (omega arith) (omega arith)
 
-read-five : (s : List ℕ) → readRefusal s ≤ 23
-unfolding readRefusal numbersTo
-read-five s = first-le 23 _ refl
+read_five : (s : List ℕ) → read_refusal s ≤ 23
+unfolding read_refusal numbers_to
+read_five s = first_le 23 _ refl
 
-write-number : (h : Header) (room : ℕ) → writeRefusal h room ≤ 23
-unfolding writeRefusal numbersTo
-write-number h room = first-le 23 _ refl
+write_number : (h : Header) (room : ℕ) → write_refusal h room ≤ 23
+unfolding write_refusal numbers_to
+write_number h room = first_le 23 _ refl
 
-octets-small : (counter : ℕ) → lengthFor counter ≤ 3
-unfolding lengthFor
-octets-small counter = go (ltb counter 4) (ltb counter 512)
+octets_small : (counter : ℕ) → length_for counter ≤ 3
+unfolding length_for
+octets_small counter = go (ltb counter 4) (ltb counter 512)
   where
     go : (a b : Bool) → pick a 1 (pick b 2 3) ≤ 3
     go true b = omega arith
     go false true = omega arith
     go false false = omega arith
 
-pub unpacking-read : UnpackingRead
-unfolding UnpackingRead ReadSays readHeader readNumber decided
-unpacking-read s octets = go (readRefusal s) refl (read-five s)
+pub unpacking_read : UnpackingRead
+unfolding UnpackingRead ReadSays read_header read_number decided
+unpacking_read s octets = go (read_refusal s) refl (read_five s)
   where
     fields : Fields
-    fields = record { header = headerOf s; size = headerLength s }
+    fields = record { header = header_of s; size = header_length s }
 
-    go : (n : ℕ) → readRefusal s ≡ n → n ≤ 23 → ReadSays (readNumber (decided n fields)) (decided n fields)
-    go zero e h = header-says s fields octets (ap (λ (k : ℕ). decided k fields) e)
-    go (suc n) e h = refusal-says n h
+    go : (n : ℕ) → read_refusal s ≡ n → n ≤ 23 → ReadSays (read_number (decided n fields)) (decided n fields)
+    go zero e h = header_says s fields octets (ap (λ (k : ℕ). decided k fields) e)
+    go (suc n) e h = refusal_says n h
 
-pub unpacking-written : UnpackingWritten
-unfolding UnpackingWritten WrittenSays writeHeader writtenNumber decided
-unpacking-written h room = go (writeRefusal h room) (write-number h room)
+pub unpacking_written : UnpackingWritten
+unfolding UnpackingWritten WrittenSays write_header written_number decided
+unpacking_written h room = go (write_refusal h room) (write_number h room)
   where
-    go : (n : ℕ) → n ≤ 23 → let a = decided n (lengthFor h.counter) in WrittenSays (writtenNumber a) a
-    go zero le = says 0 0 (lengthFor h.counter) (omega arith) (omega arith) (omega (arith, octets-small h.counter))
-    go (suc n) le = refusal-says n le
+    go : (n : ℕ) → n ≤ 23 → let a = decided n (length_for h.counter) in WrittenSays (written_number a) a
+    go zero le = says 0 0 (length_for h.counter) (omega arith) (omega arith) (omega (arith, octets_small h.counter))
+    go (suc n) le = refusal_says n le
 
 -- a number that is narrowed stays above 15
-still-above : (number : ℕ) → 15 < number → ltb 15 (narrowTo 8 number) ≡ true
-still-above number h =
+still_above : (number : ℕ) → 15 < number → ltb 15 (narrow_to 8 number) ≡ true
+still_above number h =
     by_cases (ltb number 256)
-    (λ t. ap (ltb 15) (sym (narrow-small 8 number (ltb-true number 256 t))) ∙ lt-ltb 15 number h)
-    (λ t. ap (ltb 15) (sym (narrow-large 8 number (ltb-false number 256 t))))
+    (λ t. ap (ltb 15) (sym (narrow_small 8 number (ltb-true number 256 t))) ∙ lt-ltb 15 number h)
+    (λ t. ap (ltb 15) (sym (narrow_large 8 number (ltb-false number 256 t))))
 
-pub large-number : LargeNumber
-unfolding LargeNumber headerFrom writeHeader writeRefusal first_of decided
-large-number last number counter room h = rw (still-above number h)
+pub large_number : LargeNumber
+unfolding LargeNumber header_from write_header write_refusal first_of decided
+large_number last number counter room h = rw (still_above number h)
 
 -- the writer's contract, of the header that is handed in
-pub written-by : (h' h : Header) (out out' : List ℕ) (r : ℕ) (w : HeaderWritten) → h ≡ h' → (writeAnswer w ≡ writeHeader h (length out)) × (out' ≡ outputAfter (writeAnswer w) h out)
-    → r ≡ writtenNumber (writeAnswer w) → (r ≡ writtenNumber (writeHeader h' (length out))) × (out' ≡ outputAfter (writeHeader h' (length out)) h' out)
-written-by h' h out out' r w e g n =
-    let is : writeAnswer w ≡ writeHeader h' (length out) = g.0 ∙ ap (λ (x : Header). writeHeader x (length out)) e in
-    (n ∙ ap writtenNumber is, g.1 ∙ λ i. outputAfter (is i) (e i) out)
+pub written_by : (h' h : Header) (out out' : List ℕ) (r : ℕ) (w : HeaderWritten) → h ≡ h' → (write_answer w ≡ write_header h (length out)) × (out' ≡ output_after (write_answer w) h out)
+    → r ≡ written_number (write_answer w) → (r ≡ written_number (write_header h' (length out))) × (out' ≡ output_after (write_header h' (length out)) h' out)
+written_by h' h out out' r w e g n =
+    let is : write_answer w ≡ write_header h' (length out) = g.0 ∙ ap (λ (x : Header). write_header x (length out)) e in
+    (n ∙ ap written_number is, g.1 ∙ λ i. output_after (is i) (e i) out)

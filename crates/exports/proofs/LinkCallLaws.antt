@@ -11,49 +11,49 @@ use Rattle.apdu_reading.specs.Answers.{Reads}
 use Rattle.initialisation.specs.declared.records.Link.{Link}
 use Rattle.initialisation.specs.declared.records.BstResult.{BstResult}
 use Rattle.initialisation.specs.Link.{Changed}
-use Rattle.initialisation.specs.Hearing.{Call, Reply, replyOf, heardOf, BstGives}
+use Rattle.initialisation.specs.Hearing.{Call, Reply, reply_of, heard_of, BstGives}
 use Rattle.exports.specs.declared.link_calls.Offer.{Offer}
 use Rattle.exports.specs.declared.link_calls.Offer.TheVariants as offer
-use Rattle.exports.specs.Messages.{refusalNumber, refusalAt}
-use Rattle.exports.specs.LinkCalls.{changeNumber, changeWords, ChangeGives, replyNumber, replyWords, effect, heardEffect, offerOf, Brought, call_of, offeredEffect, readEffect, BstEffect}
+use Rattle.exports.specs.Messages.{refusal_number, refusal_at}
+use Rattle.exports.specs.LinkCalls.{change_number, change_words, ChangeGives, reply_number, reply_words, effect, heard_effect, offer_of, Brought, call_of, offered_effect, read_effect, BstEffect}
 
 -- ---- release and tick
 
 pub changes : (c : Changed) (words : List ℕ) {a : Answer (Unit {0})} {link : Link} {r : ℕ} {words' : List ℕ} → a ≡ c.answer → link ≡ c.link
-    → (r ≡ changeNumber a) × (words' ≡ changeWords a link words) → ChangeGives c words r words'
+    → (r ≡ change_number a) × (words' ≡ change_words a link words) → ChangeGives c words r words'
 changes c words {link = link} p q e =
     record {
-      is = e.0 ∙ ap changeNumber p;
-      words_are = e.1 ∙ ap (λ (x : Answer (Unit {0})). changeWords x link words) p ∙ ap (λ (l : Link). changeWords c.answer l words) q;
+      is = e.0 ∙ ap change_number p;
+      words_are = e.1 ∙ ap (λ (x : Answer (Unit {0})). change_words x link words) p ∙ ap (λ (l : Link). change_words c.answer l words) q;
     }
 
 -- ---- BST
 
-pub heard-is : (words : List ℕ) (c : Call) {result : BstResult} {r : ℕ} {words' out' : List ℕ} → BstGives c result out'
-    → (r ≡ replyNumber (replyOf result.answer)) × (words' ≡ replyWords (replyOf result.answer) result.link words)
-    → effect r words' out' ≡ heardEffect words c
-unfolding heardEffect
-heard-is words c {result = result} g e =
-    let n : _ ≡ replyNumber (heardOf c).reply = e.0 ∙ ap replyNumber g.reply-is in
-    let w : _ ≡ replyWords (heardOf c).reply (heardOf c).link words =
-    e.1 ∙ ap (λ (x : Reply). replyWords x result.link words) g.reply-is ∙ ap (λ (l : Link). replyWords (heardOf c).reply l words) g.link-is in
-    let o = g.output-is in
+pub heard_is : (words : List ℕ) (c : Call) {result : BstResult} {r : ℕ} {words' out' : List ℕ} → BstGives c result out'
+    → (r ≡ reply_number (reply_of result.answer)) × (words' ≡ reply_words (reply_of result.answer) result.link words)
+    → effect r words' out' ≡ heard_effect words c
+unfolding heard_effect
+heard_is words c {result = result} g e =
+    let n : _ ≡ reply_number (heard_of c).reply = e.0 ∙ ap reply_number g.reply_is in
+    let w : _ ≡ reply_words (heard_of c).reply (heard_of c).link words =
+    e.1 ∙ ap (λ (x : Reply). reply_words x result.link words) g.reply_is ∙ ap (λ (l : Link). reply_words (heard_of c).reply l words) g.link_is in
+    let o = g.output_is in
     cc
 
 module _ (b : Brought) (s : List ℕ) (g : Reading) (e : Reads s g) where
-  by-reading : {r : ℕ} {words' out' : List ℕ} → effect r words' out' ≡ readEffect b s g.lists g.answer → BstEffect b s r words' out'
-  by-reading i = record { reading = g; reads = e; is = i }
+  by_reading_law : {r : ℕ} {words' out' : List ℕ} → effect r words' out' ≡ read_effect b s g.lists g.answer → BstEffect b s r words' out'
+  by_reading_law i = record { reading = g; reads = e; is = i }
 
-  pub bst-refused : (k p : ℕ) {r : ℕ} → g.answer ≡ answer.Refused k p → r ≡ refusalAt k p → BstEffect b s r b.words b.out
-  unfolding readEffect
-  bst-refused k p a q = by-reading (rw a (ap (λ (n : ℕ). effect n b.words b.out) q))
+  pub bst_refused : (k p : ℕ) {r : ℕ} → g.answer ≡ answer.Refused k p → r ≡ refusal_at k p → BstEffect b s r b.words b.out
+  unfolding read_effect
+  bst_refused k p a q = by_reading_law (rw a (ap (λ (n : ℕ). effect n b.words b.out) q))
 
-  module _ (m : Message) (o : Offer) (a : g.answer ≡ answer.Message m) (is : o ≡ offerOf m) where
-    pub bst-other : {r : ℕ} → o ≡ offer.Other → r ≡ refusalNumber 23 → BstEffect b s r b.words b.out
-    unfolding readEffect offeredEffect
-    bst-other n q = by-reading (rw (a, ← is, n) (ap (λ (n : ℕ). effect n b.words b.out) q))
+  module _ (m : Message) (o : Offer) (a : g.answer ≡ answer.Message m) (is : o ≡ offer_of m) where
+    pub bst_other : {r : ℕ} → o ≡ offer.Other → r ≡ refusal_number 23 → BstEffect b s r b.words b.out
+    unfolding read_effect offered_effect
+    bst_other n q = by_reading_law (rw (a, ← is, n) (ap (λ (n : ℕ). effect n b.words b.out) q))
 
-    pub bst-heard : (bst : Bst) {r : ℕ} {words' out' : List ℕ} → o ≡ offer.Offered bst
-        → effect r words' out' ≡ heardEffect b.words (call_of b s g.lists bst) → BstEffect b s r words' out'
-    unfolding readEffect offeredEffect
-    bst-heard bst n q = by-reading (rw (a, ← is, n) q)
+    pub bst_heard : (bst : Bst) {r : ℕ} {words' out' : List ℕ} → o ≡ offer.Offered bst
+        → effect r words' out' ≡ heard_effect b.words (call_of b s g.lists bst) → BstEffect b s r words' out'
+    unfolding read_effect offered_effect
+    bst_heard bst n q = by_reading_law (rw (a, ← is, n) q)

@@ -6,77 +6,77 @@ use mathlib.Core.List.{List}
 use native.Mathlib.Omega.{arith}
 use lib.Dec.{eqb}
 use Rattle.refusals.specs.Check.{Check, first_of}
-use Rattle.refusals.proofs.Tests.{by-test, numbersTo, first-le}
-use Rattle.apdu_format.specs.Reading.{readMessage}
+use Rattle.refusals.proofs.Tests.{by_test, numbers_to, first_le}
+use Rattle.apdu_format.specs.Reading.{read_message}
 use Rattle.apdu_format.specs.Writing.{size}
 use Rattle.apdu.specs.declared.lists.Lists.{Lists}
 use Rattle.apdu_reading.specs.declared.front.Answer as reader
 use Rattle.apdu_reading.specs.declared.front.Answer.TheVariants as answer
-use Rattle.apdu_reading.specs.Answers.{told, outcomeOf}
+use Rattle.apdu_reading.specs.Answers.{told, outcome_of}
 use Rattle.initialisation.specs.declared.records.Link.{Link}
-use Rattle.initialisation.specs.Link.{Changed, changed, releaseOf, tickOf}
+use Rattle.initialisation.specs.Link.{Changed, changed, release_of, tick_of}
 use Rattle.initialisation.specs.Offer.{Found, nothing, found}
-use Rattle.initialisation.specs.Hearing.{Call, Taken, Heard, hearingRefusal, sent, vst, vstFor, replyTo, heardOf}
+use Rattle.initialisation.specs.Hearing.{Call, Taken, Heard, hearing_refusal, sent, vst, vst_for, reply_to, heard_of}
 use Rattle.initialisation.proofs.Theorems.{hears}
 use Rattle.exports.specs.declared.link_calls.Offer.{Offer}
 use Rattle.exports.specs.declared.link_calls.Offer.TheVariants as offer
-use Rattle.exports.specs.LinkCalls.{changeNumber, replyNumber, Effect, heardEffect, offerOf, Brought, call_of, offeredEffect, readEffect, ChangeSays, ReplySays, OfferSays, BstSays, UnpackingRelease, UnpackingTick, UnpackingBst}
-use Rattle.exports.proofs.Saying.{says, says-refused}
-use Rattle.exports.proofs.ReadingBack.{read-refused}
+use Rattle.exports.specs.LinkCalls.{change_number, reply_number, Effect, heard_effect, offer_of, Brought, call_of, offered_effect, read_effect, ChangeSays, ReplySays, OfferSays, BstSays, UnpackingRelease, UnpackingTick, UnpackingBst}
+use Rattle.exports.proofs.Saying.{says, says_refused}
+use Rattle.exports.proofs.ReadingBack.{read_refused}
 
 -- ---- release and tick
 
-change-says : (checks : List Check) (before after : Link) → numbersTo 25 checks ≡ true
-    → let a = (changed checks before after).answer in ChangeSays (changeNumber a) a
-unfolding changed changeNumber ChangeSays
-change-says checks before after small =
-    by-test (λ (c : Changed). ChangeSays (changeNumber c.answer) c.answer) (eqb (first_of checks) 0)
+change_says : (checks : List Check) (before after : Link) → numbers_to 25 checks ≡ true
+    → let a = (changed checks before after).answer in ChangeSays (change_number a) a
+unfolding changed change_number ChangeSays
+change_says checks before after small =
+    by_test (λ (c : Changed). ChangeSays (change_number c.answer) c.answer) (eqb (first_of checks) 0)
     (λ t. says 0 0 0 (omega arith) (omega arith) (omega arith))
-    (λ t. says-refused (first_of checks) 0 t (omega (arith, first-le 25 checks small)) (omega arith))
+    (λ t. says_refused (first_of checks) 0 t (omega (arith, first_le 25 checks small)) (omega arith))
 
-pub unpacking-release : UnpackingRelease
-unfolding UnpackingRelease releaseOf numbersTo
-unpacking-release lid link = change-says _ link _ refl
+pub unpacking_release : UnpackingRelease
+unfolding UnpackingRelease release_of numbers_to
+unpacking_release lid link = change_says _ link _ refl
 
-pub unpacking-tick : UnpackingTick
-unfolding UnpackingTick tickOf numbersTo
-unpacking-tick tick link = change-says _ link _ refl
+pub unpacking_tick : UnpackingTick
+unfolding UnpackingTick tick_of numbers_to
+unpacking_tick tick link = change_says _ link _ refl
 
 -- ---- BST
 
 module _ (c : Call) where
-  refusal-small : hearingRefusal c ≤ 26
-  unfolding hearingRefusal numbersTo
-  refusal-small = first-le 26 _ refl
+  refusal_small : hearing_refusal c ≤ 26
+  unfolding hearing_refusal numbers_to
+  refusal_small = first_le 26 _ refl
 
-  vst-sent : (t : Taken) → eqb (hearingRefusal c) 0 ≡ true → sent c ≡ found t → (heardOf c).reply ≡ vst (size (vstFor t c.marks c.configuration))
-  unfolding heardOf
-  vst-sent t e f = rw e (ap (λ (x : Found Taken). replyTo x c.marks c.configuration) f)
+  vst_sent : (t : Taken) → eqb (hearing_refusal c) 0 ≡ true → sent c ≡ found t → (heard_of c).reply ≡ vst (size (vst_for t c.marks c.configuration))
+  unfolding heard_of
+  vst_sent t e f = rw e (ap (λ (x : Found Taken). reply_to x c.marks c.configuration) f)
 
-  reply-says : ReplySays (replyNumber (heardOf c).reply) (heardOf c).reply
-  unfolding heardOf replyNumber ReplySays
-  reply-says =
-      by-test (λ (h : Heard). ReplySays (replyNumber h.reply) h.reply) (eqb (hearingRefusal c) 0) (λ t. go t (sent c) refl)
-      (λ t. says-refused (hearingRefusal c) 0 t (omega (arith, refusal-small)) (omega arith))
+  reply_says : ReplySays (reply_number (heard_of c).reply) (heard_of c).reply
+  unfolding heard_of reply_number ReplySays
+  reply_says =
+      by_test (λ (h : Heard). ReplySays (reply_number h.reply) h.reply) (eqb (hearing_refusal c) 0) (λ t. go t (sent c) refl)
+      (λ t. says_refused (hearing_refusal c) 0 t (omega (arith, refusal_small)) (omega arith))
     where
-      go : eqb (hearingRefusal c) 0 ≡ true → (f : Found Taken) → sent c ≡ f
-          → let x = replyTo f c.marks c.configuration in ReplySays (replyNumber x) x
+      go : eqb (hearing_refusal c) 0 ≡ true → (f : Found Taken) → sent c ≡ f
+          → let x = reply_to f c.marks c.configuration in ReplySays (reply_number x) x
       go t nothing e = says 0 0 0 (omega arith) (omega arith) (omega arith)
-      go t (found taken) e = says 0 1 (size (vstFor taken c.marks c.configuration)) (omega arith) (omega arith) ((hears c).sent _ (vst-sent taken t e)).short
+      go t (found taken) e = says 0 1 (size (vst_for taken c.marks c.configuration)) (omega arith) (omega arith) ((hears c).sent _ (vst_sent taken t e)).short
 
 module _ (b : Brought) (s : List ℕ) (lists : Lists) where
-  offer-says : (o : Offer) → OfferSays (offeredEffect b s lists o).number b s lists o
-  unfolding offeredEffect heardEffect OfferSays
-  offer-says offer.Other = says-refused 23 0 refl (omega arith) (omega arith)
-  offer-says (offer.Offered bst) = reply-says (call_of b s lists bst)
+  offer_says : (o : Offer) → OfferSays (offered_effect b s lists o).number b s lists o
+  unfolding offered_effect heard_effect OfferSays
+  offer_says offer.Other = says_refused 23 0 refl (omega arith) (omega arith)
+  offer_says (offer.Offered bst) = reply_says (call_of b s lists bst)
 
-  bst-says : (end : ℕ) (a : reader.Answer) → told s lists end a ≡ readMessage s → BstSays (readEffect b s lists a).number b s lists a
-  unfolding told readEffect BstSays
-  bst-says end (answer.Refused k p) e = read-refused s k p (sym e)
-  bst-says end (answer.Message m) e = offer-says (offerOf m)
+  bst_says : (end : ℕ) (a : reader.Answer) → told s lists end a ≡ read_message s → BstSays (read_effect b s lists a).number b s lists a
+  unfolding told read_effect BstSays
+  bst_says end (answer.Refused k p) e = read_refused s k p (sym e)
+  bst_says end (answer.Message m) e = offer_says (offer_of m)
 
-pub unpacking-bst : UnpackingBst
-unfolding UnpackingBst outcomeOf
-unpacking-bst b s r words' out' g =
+pub unpacking_bst : UnpackingBst
+unfolding UnpackingBst outcome_of
+unpacking_bst b s r words' out' g =
     let x = g.reading in
-    subst (λ (k : ℕ). BstSays k b s x.lists x.answer) (sym (ap (λ (e : Effect). e.number) g.is)) (bst-says b s x.lists x.end x.answer g.reads.outcome)
+    subst (λ (k : ℕ). BstSays k b s x.lists x.answer) (sym (ap (λ (e : Effect). e.number) g.is)) (bst_says b s x.lists x.end x.answer g.reads.outcome)

@@ -5,56 +5,56 @@ use Rattle.std.specs.Prelude.{ℕ, ◌≡◌, Bool, true, false, List, length, l
 use Rattle.refusals.specs.Check.{pick, refused}
 use Rattle.bench_lines.specs.declared.BenchAnswer.{BenchAnswer}
 use Rattle.bench_lines.specs.declared.BenchAnswer.TheVariants as shown
-use Rattle.bench_lines.specs.Line.{readLine}
-use Rattle.bench_lines.specs.Text.{answerLineText, written}
+use Rattle.bench_lines.specs.Line.{read_line}
+use Rattle.bench_lines.specs.Text.{answer_line_text, written}
 use Rattle.bench_joining.specs.declared.Columns.{Columns}
 use Rattle.bench_joining.specs.declared.Taken.{Taken}
-use Rattle.bench_joining.specs.Joined.{LineJoined, lsduOf}
-use Rattle.words.specs.Answer.{answerNumber, Says}
-use Rattle.words.specs.TableWords.{tableIn}
-use Rattle.exports.specs.Fragments.{keptWords}
+use Rattle.bench_joining.specs.Joined.{LineJoined, lsdu_of}
+use Rattle.words.specs.Answer.{answer_number, Says}
+use Rattle.words.specs.TableWords.{table_in}
+use Rattle.exports.specs.Fragments.{kept_words}
 
 -- the room that is asked for, and room for the LSDU of any line
-abbrev pub textOctets : ℕ
-textOctets = 128
+abbrev pub text_octets : ℕ
+text_octets = 128
 
-abbrev pub lsduRoom : ℕ
-lsduRoom = 300
+abbrev pub lsdu_room : ℕ
+lsdu_room = 300
 
-unfoldable pub isAccepted : BenchAnswer → Bool
-isAccepted shown.Held = true
-isAccepted shown.Whole = true
-isAccepted (shown.Refused number) = false
+unfoldable pub is_accepted : BenchAnswer → Bool
+is_accepted shown.Held = true
+is_accepted shown.Whole = true
+is_accepted (shown.Refused number) = false
 
 -- the line of output
-unfoldable pub outputLine : ℕ → Columns → List ℕ
-outputLine number columns = answerLineText number columns.answer columns.octets columns.dropped
+unfoldable pub output_line : ℕ → Columns → List ℕ
+output_line number columns = answer_line_text number columns.answer columns.octets columns.dropped
 
 -- the line is taken and shown
 pub record LineShown (number : ℕ) (line words store output text : List ℕ) (r : ℕ) (words' store' output' text' : List ℕ) : Type 0 where
   pub taken : Taken
-  pub joined : LineJoined (readLine line lsduRoom) (lsduOf line) (tableIn words) store output taken store' output'
-  pub words_are : words' ≡ keptWords (isAccepted taken.columns.answer) taken.table words
-  pub table-back : tableIn words' ≡ taken.table
-  pub text-is : text' ≡ written text 0 (outputLine number taken.columns)
-  pub number_is : r ≡ answerNumber 0 0 (length (outputLine number taken.columns)) 0
-  pub says : Says r 0 0 (length (outputLine number taken.columns)) 0
+  pub joined : LineJoined (read_line line lsdu_room) (lsdu_of line) (table_in words) store output taken store' output'
+  pub words_are : words' ≡ kept_words (is_accepted taken.columns.answer) taken.table words
+  pub table_back : table_in words' ≡ taken.table
+  pub text_is : text' ≡ written text 0 (output_line number taken.columns)
+  pub number_is : r ≡ answer_number 0 0 (length (output_line number taken.columns)) 0
+  pub says : Says r 0 0 (length (output_line number taken.columns)) 0
 
 -- too little room for the text
 pub record TextRefused (words store output text : List ℕ) (r : ℕ) (words' store' output' text' : List ℕ) : Type 0 where
-  pub number_is : r ≡ answerNumber 22 0 0 0
+  pub number_is : r ≡ answer_number 22 0 0 0
   pub words_are : words' ≡ words
   pub store_is : store' ≡ store
-  pub output-is : output' ≡ output
-  pub text-is : text' ≡ text
+  pub output_is : output' ≡ output
+  pub text_is : text' ≡ text
 
 -- the contract
 unfoldable pub BenchLineExported : (number : ℕ) → (line words store output text : List ℕ) → (r : ℕ) → (words' store' output' text' : List ℕ) → Type 0
 BenchLineExported number line words store output text r words' store' output' text' =
-    pick (ltb (length text) textOctets) (TextRefused words store output text r words' store' output' text')
+    pick (ltb (length text) text_octets) (TextRefused words store output text r words' store' output' text')
     (LineShown number line words store output text r words' store' output' text')
 
 -- ---- the promise (proofs/BenchLaws.antt proves it; `bench_line` cites it): no line is refused for want of room
 
 unfoldable pub RoomForEach : Type 0
-RoomForEach = (line : List ℕ) → readLine line lsduRoom ≡ refused 22 → ⊥
+RoomForEach = (line : List ℕ) → read_line line lsdu_room ≡ refused 22 → ⊥

@@ -14,14 +14,14 @@ use Rattle.reassembly.specs.declared.FragmentResult.{FragmentResult}
 use Rattle.reassembly.specs.declared.FragmentAnswer.{FragmentAnswer}
 use Rattle.reassembly.specs.declared.FragmentAnswer.TheVariants as fragment
 use Rattle.reassembly.specs.Engine.{FragmentGives}
-use Rattle.words.specs.Answer.{answerNumber, Says, SaysRefused}
-use Rattle.words.specs.TableWords.{tableIn, tableWords}
+use Rattle.words.specs.Answer.{answer_number, Says, SaysRefused}
+use Rattle.words.specs.TableWords.{table_in, table_words}
 
 -- ---- the table's words after a call
 
 -- only an accepted call puts its table
-unfoldable pub keptWords : (taken : Bool) → Table → List ℕ → List ℕ
-keptWords taken table words = pick taken (tableWords table) words
+unfoldable pub kept_words : (taken : Bool) → Table → List ℕ → List ℕ
+kept_words taken table words = pick taken (table_words table) words
 
 -- ---- a fragment: kind 1 held, kind 2 whole, with its octets and those dropped
 
@@ -30,10 +30,10 @@ is_taken (fragment.Held octets dropped) = true
 is_taken (fragment.Whole octets dropped) = true
 is_taken (fragment.Refused number) = false
 
-unfoldable pub fragmentNumber : FragmentAnswer → ℕ
-fragmentNumber (fragment.Held octets dropped) = answerNumber 0 1 octets dropped
-fragmentNumber (fragment.Whole octets dropped) = answerNumber 0 2 octets dropped
-fragmentNumber (fragment.Refused number) = answerNumber number 0 0 0
+unfoldable pub fragment_number : FragmentAnswer → ℕ
+fragment_number (fragment.Held octets dropped) = answer_number 0 1 octets dropped
+fragment_number (fragment.Whole octets dropped) = answer_number 0 2 octets dropped
+fragment_number (fragment.Refused number) = answer_number number 0 0 0
 
 -- what a caller takes out of a number r is the answer: kind, octets and octets dropped, or the refusal's number
 unfoldable pub FragmentSays : (r : ℕ) → FragmentAnswer → Type 0
@@ -44,21 +44,21 @@ FragmentSays r (fragment.Refused number) = SaysRefused r number 0
 -- the contract: the result r, and the table's words, the store and the output afterwards
 pub record FragmentExported (lid tick : ℕ) (lsdu words store output : List ℕ) (r : ℕ) (words' store' output' : List ℕ) : Type 0 where
   pub call : FragmentResult
-  pub gives : FragmentGives lid tick lsdu (tableIn words) store output call store' output'
-  pub number_is : r ≡ fragmentNumber call.answer
+  pub gives : FragmentGives lid tick lsdu (table_in words) store output call store' output'
+  pub number_is : r ≡ fragment_number call.answer
   pub says : FragmentSays r call.answer
-  pub words_are : words' ≡ keptWords (is_taken call.answer) call.table words
-  pub table-back : tableIn words' ≡ call.table
+  pub words_are : words' ≡ kept_words (is_taken call.answer) call.table words
+  pub table_back : table_in words' ≡ call.table
 
 -- ---- expiry and release: the octets dropped
 
-unfoldable pub isSwept : SweepAnswer → Bool
-isSwept (sweep.Dropped octets) = true
-isSwept (sweep.Refused number) = false
+unfoldable pub is_swept : SweepAnswer → Bool
+is_swept (sweep.Dropped octets) = true
+is_swept (sweep.Refused number) = false
 
-unfoldable pub sweepNumber : SweepAnswer → ℕ
-sweepNumber (sweep.Dropped octets) = answerNumber 0 0 octets 0
-sweepNumber (sweep.Refused number) = answerNumber number 0 0 0
+unfoldable pub sweep_number : SweepAnswer → ℕ
+sweep_number (sweep.Dropped octets) = answer_number 0 0 octets 0
+sweep_number (sweep.Refused number) = answer_number number 0 0 0
 
 unfoldable pub SweepSays : (r : ℕ) → SweepAnswer → Type 0
 SweepSays r (sweep.Dropped octets) = Says r 0 0 octets 0
@@ -66,18 +66,18 @@ SweepSays r (sweep.Refused number) = SaysRefused r number 0
 
 -- what both promise of a call
 pub record SweepExported (words : List ℕ) (call : SweepResult) (r : ℕ) (words' : List ℕ) : Type 0 where
-  pub number_is : r ≡ sweepNumber call.answer
+  pub number_is : r ≡ sweep_number call.answer
   pub says : SweepSays r call.answer
-  pub words_are : words' ≡ keptWords (isSwept call.answer) call.table words
-  pub table-back : tableIn words' ≡ call.table
+  pub words_are : words' ≡ kept_words (is_swept call.answer) call.table words
+  pub table_back : table_in words' ≡ call.table
 
 -- the contracts
 pub record ExpiryExported (tick limit : ℕ) (words : List ℕ) (r : ℕ) (words' : List ℕ) : Type 0 where
   pub call : SweepResult
-  pub gives : ExpiryGives tick limit (tableIn words) call
+  pub gives : ExpiryGives tick limit (table_in words) call
   pub exported : SweepExported words call r words'
 
 pub record ReleaseExported (lid : ℕ) (words : List ℕ) (r : ℕ) (words' : List ℕ) : Type 0 where
   pub call : SweepResult
-  pub gives : ReleaseGives lid (tableIn words) call
+  pub gives : ReleaseGives lid (table_in words) call
   pub exported : SweepExported words call r words'

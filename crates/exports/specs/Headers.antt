@@ -6,35 +6,35 @@ use Rattle.std.specs.Prelude.{ℕ, ◌+◌, ◌*◌, ◌/◌, ◌%◌, ◌<◌, 
 use Rattle.refusals.specs.Check.{Answer, refused, accepted}
 use Rattle.bits.specs.Bits.{Octets}
 use Rattle.header.specs.declared.Header.{Header}
-use Rattle.header.specs.Header.{Fields, bit_of, readHeader, writeHeader}
-use Rattle.words.specs.Answer.{answerNumber, number_in, kindIn, firstIn, secondIn, Says, SaysRefused}
-use Rattle.words.specs.Word.{narrowTo}
+use Rattle.header.specs.Header.{Fields, bit_of, read_header, write_header}
+use Rattle.words.specs.Answer.{answer_number, number_in, kind_in, first_in, second_in, Says, SaysRefused}
+use Rattle.words.specs.Word.{narrow_to}
 
 -- a header has at most three octets
-abbrev pub sizeAndMark : ℕ → Bool → ℕ
-sizeAndMark size last = size % 4 + 4 * bit_of last
+abbrev pub size_and_mark : ℕ → Bool → ℕ
+size_and_mark size last = size % 4 + 4 * bit_of last
 
-unfoldable pub readNumber : Answer Fields → ℕ
-readNumber (accepted f) = answerNumber 0 f.header.number f.header.counter (sizeAndMark f.size f.header.last)
-readNumber (refused number) = answerNumber number 0 0 0
+unfoldable pub read_number : Answer Fields → ℕ
+read_number (accepted f) = answer_number 0 f.header.number f.header.counter (size_and_mark f.size f.header.last)
+read_number (refused number) = answer_number number 0 0 0
 
 -- the header that is handed in
-unfoldable pub headerFrom : (last number counter : ℕ) → Header
-headerFrom last number counter = record { last = not (eqb last 0); number = narrowTo 8 number; counter = counter }
+unfoldable pub header_from : (last number counter : ℕ) → Header
+header_from last number counter = record { last = not (eqb last 0); number = narrow_to 8 number; counter = counter }
 
-unfoldable pub writtenNumber : Answer ℕ → ℕ
-writtenNumber (accepted octets) = answerNumber 0 0 octets 0
-writtenNumber (refused number) = answerNumber number 0 0 0
+unfoldable pub written_number : Answer ℕ → ℕ
+written_number (accepted octets) = answer_number 0 0 octets 0
+written_number (refused number) = answer_number number 0 0 0
 
 -- ---- what a caller takes out of a number r
 
 -- the header that was read: its size is the second number modulo 4, and its last mark what is left of that number
 pub record HeaderSays (r : ℕ) (f : Fields) : Type 0 where
   pub number_is : number_in r ≡ 0
-  pub kind-is : kindIn r ≡ f.header.number
-  pub first-is : firstIn r ≡ f.header.counter
-  pub size_is : secondIn r % 4 ≡ f.size
-  pub last-is : secondIn r / 4 ≡ bit_of f.header.last
+  pub kind_is : kind_in r ≡ f.header.number
+  pub first_is : first_in r ≡ f.header.counter
+  pub size_is : second_in r % 4 ≡ f.size
+  pub last_is : second_in r / 4 ≡ bit_of f.header.last
 
 unfoldable pub ReadSays : (r : ℕ) → Answer Fields → Type 0
 ReadSays r (accepted f) = HeaderSays r f
@@ -48,12 +48,12 @@ WrittenSays r (refused number) = SaysRefused r number 0
 
 -- what is taken out of the number is what reading answers
 unfoldable pub UnpackingRead : Type 0
-UnpackingRead = (s : List ℕ) → Octets s → ReadSays (readNumber (readHeader s)) (readHeader s)
+UnpackingRead = (s : List ℕ) → Octets s → ReadSays (read_number (read_header s)) (read_header s)
 
 -- and what writing answers
 unfoldable pub UnpackingWritten : Type 0
-UnpackingWritten = (h : Header) (room : ℕ) → WrittenSays (writtenNumber (writeHeader h room)) (writeHeader h room)
+UnpackingWritten = (h : Header) (room : ℕ) → WrittenSays (written_number (write_header h room)) (write_header h room)
 
 -- every PDU number above 15 is out of range, however large
 unfoldable pub LargeNumber : Type 0
-LargeNumber = (last number counter room : ℕ) → 15 < number → writeHeader (headerFrom last number counter) room ≡ refused 23
+LargeNumber = (last number counter room : ℕ) → 15 < number → write_header (header_from last number counter) room ≡ refused 23

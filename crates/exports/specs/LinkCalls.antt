@@ -15,42 +15,42 @@ use Rattle.apdu_reading.specs.Answers.{Reads}
 use Rattle.initialisation.specs.declared.records.Configuration.{Configuration}
 use Rattle.initialisation.specs.declared.records.Elements.{Elements}
 use Rattle.initialisation.specs.declared.records.Link.{Link}
-use Rattle.initialisation.specs.Link.{Changed, releaseOf, tickOf}
+use Rattle.initialisation.specs.Link.{Changed, release_of, tick_of}
 use Rattle.initialisation.specs.Hearing as hearing
-use Rattle.initialisation.specs.Hearing.{Call, call, heardOf}
-use Rattle.words.specs.Answer.{answerNumber, Says, SaysRefused}
-use Rattle.words.specs.LinkWords.{withLink, link_in}
+use Rattle.initialisation.specs.Hearing.{Call, call, heard_of}
+use Rattle.words.specs.Answer.{answer_number, Says, SaysRefused}
+use Rattle.words.specs.LinkWords.{with_link, link_in}
 use Rattle.exports.specs.declared.link_calls.Offer.{Offer}
 use Rattle.exports.specs.declared.link_calls.Offer.TheVariants as offer
-use Rattle.exports.specs.Messages.{refusalNumber, refusalAt}
+use Rattle.exports.specs.Messages.{refusal_number, refusal_at}
 
 -- ---- release and tick
 
-unfoldable pub changeNumber : Answer (Unit {0}) → ℕ
-changeNumber (accepted u) = answerNumber 0 0 0 0
-changeNumber (refused k) = refusalNumber k
+unfoldable pub change_number : Answer (Unit {0}) → ℕ
+change_number (accepted u) = answer_number 0 0 0 0
+change_number (refused k) = refusal_number k
 
-unfoldable pub changeWords : Answer (Unit {0}) → Link → List ℕ → List ℕ
-changeWords (accepted u) link words = withLink link words
-changeWords (refused k) link words = words
+unfoldable pub change_words : Answer (Unit {0}) → Link → List ℕ → List ℕ
+change_words (accepted u) link words = with_link link words
+change_words (refused k) link words = words
 
 -- the contract: r and the words afterwards are those of what the call answers, and of the link after it
 pub record ChangeGives (c : Changed) (words : List ℕ) (r : ℕ) (words' : List ℕ) : Type 0 where
-  pub is : r ≡ changeNumber c.answer
-  pub words_are : words' ≡ changeWords c.answer c.link words
+  pub is : r ≡ change_number c.answer
+  pub words_are : words' ≡ change_words c.answer c.link words
 
 -- ---- BST
 
 -- kind 0: silent; kind 1: a VST of so many octets
-unfoldable pub replyNumber : hearing.Reply → ℕ
-replyNumber (hearing.refused k) = refusalNumber k
-replyNumber hearing.silent = answerNumber 0 0 0 0
-replyNumber (hearing.vst n) = answerNumber 0 1 n 0
+unfoldable pub reply_number : hearing.Reply → ℕ
+reply_number (hearing.refused k) = refusal_number k
+reply_number hearing.silent = answer_number 0 0 0 0
+reply_number (hearing.vst n) = answer_number 0 1 n 0
 
-unfoldable pub replyWords : hearing.Reply → Link → List ℕ → List ℕ
-replyWords (hearing.refused k) link words = words
-replyWords hearing.silent link words = withLink link words
-replyWords (hearing.vst n) link words = withLink link words
+unfoldable pub reply_words : hearing.Reply → Link → List ℕ → List ℕ
+reply_words (hearing.refused k) link words = words
+reply_words hearing.silent link words = with_link link words
+reply_words (hearing.vst n) link words = with_link link words
 
 -- the answer, and the link's words and the output afterwards
 pub record Effect : Type 0 where
@@ -62,21 +62,21 @@ abbrev pub effect : ℕ → List ℕ → List ℕ → Effect
 effect r words out = record { number = r; words = words; output = out }
 
 -- a call with a BST record
-unfoldable pub heardEffect : List ℕ → Call → Effect
-heardEffect words c = effect (replyNumber (heardOf c).reply) (replyWords (heardOf c).reply (heardOf c).link words) (heardOf c).out
+unfoldable pub heard_effect : List ℕ → Call → Effect
+heard_effect words c = effect (reply_number (heard_of c).reply) (reply_words (heard_of c).reply (heard_of c).link words) (heard_of c).out
 
 -- the BST record of a message, if it is one
-abbrev pub offerOf : Message → Offer
-offerOf (kind.ActionRequest m) = offer.Other
-offerOf (kind.ActionResponse m) = offer.Other
-offerOf (kind.EventRequest m) = offer.Other
-offerOf (kind.EventResponse m) = offer.Other
-offerOf (kind.SetRequest m) = offer.Other
-offerOf (kind.SetResponse m) = offer.Other
-offerOf (kind.GetRequest m) = offer.Other
-offerOf (kind.GetResponse m) = offer.Other
-offerOf (kind.Bst m) = offer.Offered m
-offerOf (kind.Vst m) = offer.Other
+abbrev pub offer_of : Message → Offer
+offer_of (kind.ActionRequest m) = offer.Other
+offer_of (kind.ActionResponse m) = offer.Other
+offer_of (kind.EventRequest m) = offer.Other
+offer_of (kind.EventResponse m) = offer.Other
+offer_of (kind.SetRequest m) = offer.Other
+offer_of (kind.SetResponse m) = offer.Other
+offer_of (kind.GetRequest m) = offer.Other
+offer_of (kind.GetResponse m) = offer.Other
+offer_of (kind.Bst m) = offer.Offered m
+offer_of (kind.Vst m) = offer.Other
 
 -- what an export brings besides the message; `words` are the link's
 pub record Brought : Type 0 where
@@ -95,19 +95,19 @@ brought words tick lid own marks k out =
 abbrev pub call_of : Brought → List ℕ → Lists → Bst → Call
 call_of b s lists bst = call (link_in b.words) bst lists s b.tick b.lid b.own b.marks b.configuration b.out
 
-unfoldable pub offeredEffect : Brought → List ℕ → Lists → Offer → Effect
-offeredEffect b s lists offer.Other = effect (refusalNumber 23) b.words b.out
-offeredEffect b s lists (offer.Offered bst) = heardEffect b.words (call_of b s lists bst)
+unfoldable pub offered_effect : Brought → List ℕ → Lists → Offer → Effect
+offered_effect b s lists offer.Other = effect (refusal_number 23) b.words b.out
+offered_effect b s lists (offer.Offered bst) = heard_effect b.words (call_of b s lists bst)
 
-unfoldable pub readEffect : Brought → List ℕ → Lists → reader.Answer → Effect
-readEffect b s lists (answer.Refused k p) = effect (refusalAt k p) b.words b.out
-readEffect b s lists (answer.Message m) = offeredEffect b s lists (offerOf m)
+unfoldable pub read_effect : Brought → List ℕ → Lists → reader.Answer → Effect
+read_effect b s lists (answer.Refused k p) = effect (refusal_at k p) b.words b.out
+read_effect b s lists (answer.Message m) = offered_effect b s lists (offer_of m)
 
 -- the contract: the answer, words and output are those of the definition, for the record that reading makes of s
 pub record BstEffect (b : Brought) (s : List ℕ) (r : ℕ) (words' out' : List ℕ) : Type 0 where
   pub reading : Reading
   pub reads : Reads s reading
-  pub is : effect r words' out' ≡ readEffect b s reading.lists reading.answer
+  pub is : effect r words' out' ≡ read_effect b s reading.lists reading.answer
 
 -- ---- what a caller takes out of a number r
 
@@ -122,30 +122,30 @@ ReplySays r (hearing.vst n) = Says r 0 1 n 0
 
 unfoldable pub OfferSays : (r : ℕ) → Brought → List ℕ → Lists → Offer → Type 0
 OfferSays r b s lists offer.Other = SaysRefused r 23 0
-OfferSays r b s lists (offer.Offered bst) = ReplySays r (heardOf (call_of b s lists bst)).reply
+OfferSays r b s lists (offer.Offered bst) = ReplySays r (heard_of (call_of b s lists bst)).reply
 
 unfoldable pub BstSays : (r : ℕ) → Brought → List ℕ → Lists → reader.Answer → Type 0
 BstSays r b s lists (answer.Refused k p) = SaysRefused r k p
-BstSays r b s lists (answer.Message m) = OfferSays r b s lists (offerOf m)
+BstSays r b s lists (answer.Message m) = OfferSays r b s lists (offer_of m)
 
 -- ---- the link after a BST call
 
-unfoldable pub offeredLink : Brought → List ℕ → Lists → Offer → Link
-offeredLink b s lists offer.Other = link_in b.words
-offeredLink b s lists (offer.Offered bst) = (heardOf (call_of b s lists bst)).link
+unfoldable pub offered_link : Brought → List ℕ → Lists → Offer → Link
+offered_link b s lists offer.Other = link_in b.words
+offered_link b s lists (offer.Offered bst) = (heard_of (call_of b s lists bst)).link
 
-unfoldable pub heardLink : Brought → List ℕ → Lists → reader.Answer → Link
-heardLink b s lists (answer.Refused k p) = link_in b.words
-heardLink b s lists (answer.Message m) = offeredLink b s lists (offerOf m)
+unfoldable pub heard_link : Brought → List ℕ → Lists → reader.Answer → Link
+heard_link b s lists (answer.Refused k p) = link_in b.words
+heard_link b s lists (answer.Message m) = offered_link b s lists (offer_of m)
 
 -- ---- promises (proofs/LinkNumbers.antt and LinkKept.antt prove them; `link_release`, `link_tick` and `link_bst` cite two each)
 
 -- what is taken out of the number is what the call answers
 unfoldable pub UnpackingRelease : Type 0
-UnpackingRelease = (lid : ℕ) (link : Link) → let a = (releaseOf lid link).answer in ChangeSays (changeNumber a) a
+UnpackingRelease = (lid : ℕ) (link : Link) → let a = (release_of lid link).answer in ChangeSays (change_number a) a
 
 unfoldable pub UnpackingTick : Type 0
-UnpackingTick = (tick : ℕ) (link : Link) → let a = (tickOf tick link).answer in ChangeSays (changeNumber a) a
+UnpackingTick = (tick : ℕ) (link : Link) → let a = (tick_of tick link).answer in ChangeSays (change_number a) a
 
 unfoldable pub UnpackingBst : Type 0
 UnpackingBst =
@@ -155,15 +155,15 @@ UnpackingBst =
 -- and the words afterwards are the link after the call, so exported calls on the same words are calls on that link
 unfoldable pub KeptReleased : Type 0
 KeptReleased =
-    (lid : ℕ) (words : List ℕ) (r : ℕ) (words' : List ℕ) → ChangeGives (releaseOf lid (link_in words)) words r words'
-    → link_in words' ≡ (releaseOf lid (link_in words)).link
+    (lid : ℕ) (words : List ℕ) (r : ℕ) (words' : List ℕ) → ChangeGives (release_of lid (link_in words)) words r words'
+    → link_in words' ≡ (release_of lid (link_in words)).link
 
 unfoldable pub KeptTicked : Type 0
 KeptTicked =
-    (tick : ℕ) (words : List ℕ) (r : ℕ) (words' : List ℕ) → ChangeGives (tickOf tick (link_in words)) words r words'
-    → link_in words' ≡ (tickOf tick (link_in words)).link
+    (tick : ℕ) (words : List ℕ) (r : ℕ) (words' : List ℕ) → ChangeGives (tick_of tick (link_in words)) words r words'
+    → link_in words' ≡ (tick_of tick (link_in words)).link
 
 unfoldable pub KeptHeard : Type 0
 KeptHeard =
     (b : Brought) (s : List ℕ) (r : ℕ) (words' out' : List ℕ) (g : BstEffect b s r words' out')
-    → link_in words' ≡ heardLink b s g.reading.lists g.reading.answer
+    → link_in words' ≡ heard_link b s g.reading.lists g.reading.answer

@@ -8,34 +8,34 @@ use Rattle.slots.specs.declared.Table.{Table}
 use Rattle.slots.specs.Slots.{table_of}
 use Rattle.reassembly.specs.declared.FragmentAnswer.{FragmentAnswer}
 use Rattle.reassembly.specs.Engine.{FragmentGives}
-use Rattle.bench_lines.specs.Line.{readLine}
+use Rattle.bench_lines.specs.Line.{read_line}
 use Rattle.bench_joining.specs.declared.Columns.{Columns}
-use Rattle.bench_joining.specs.Joined.{LsduJoined, LineJoined, lsduOf}
-use Rattle.words.specs.TableWords.{tableIn, tableAfter}
-use Rattle.exports.specs.Fragments.{keptWords, is_taken, isSwept, sweepNumber}
-use Rattle.exports.specs.BenchLine.{lsduRoom, isAccepted}
+use Rattle.bench_joining.specs.Joined.{LsduJoined, LineJoined, lsdu_of}
+use Rattle.words.specs.TableWords.{table_in, table_after}
+use Rattle.exports.specs.Fragments.{kept_words, is_taken, is_swept, sweep_number}
+use Rattle.exports.specs.BenchLine.{lsdu_room, is_accepted}
 
-unfoldable pub keptTable : (taken : Bool) → Table → List ℕ → List ℕ
-keptTable taken table words = pick taken (tableAfter table words) words
+unfoldable pub kept_table : (taken : Bool) → Table → List ℕ → List ℕ
+kept_table taken table words = pick taken (table_after table words) words
 
 -- with one slot of the words' table changed
-abbrev pub keptChange : (taken : Bool) → ℕ → Slot → List ℕ → List ℕ
-keptChange taken i slot words = keptTable taken (table_of (set (tableIn words).slots i slot)) words
+abbrev pub kept_change : (taken : Bool) → ℕ → Slot → List ℕ → List ℕ
+kept_change taken i slot words = kept_table taken (table_of (set (table_in words).slots i slot)) words
 
 -- a fragment: the table after the call is that of the words, and an accepted call has put it
 pub record FragmentPut (lid tick : ℕ) (lsdu words store output : List ℕ) (r : FragmentAnswer) (words' store' output' : List ℕ) : Type 0 where
-  pub gives : FragmentGives lid tick lsdu (tableIn words) store output (record { answer = r; table = tableIn words' }) store' output'
-  pub words_are : words' ≡ keptWords (is_taken r) (tableIn words') words
+  pub gives : FragmentGives lid tick lsdu (table_in words) store output (record { answer = r; table = table_in words' }) store' output'
+  pub words_are : words' ≡ kept_words (is_taken r) (table_in words') words
 
 -- a line's LSDU, and a line: likewise, by what the columns show
 pub record LsduPut (lid tick : ℕ) (lsdu words store output : List ℕ) (r : Columns) (words' store' output' : List ℕ) : Type 0 where
-  pub joined : LsduJoined lid tick lsdu (tableIn words) store output (record { table = tableIn words'; columns = r }) store' output'
-  pub words_are : words' ≡ keptWords (isAccepted r.answer) (tableIn words') words
+  pub joined : LsduJoined lid tick lsdu (table_in words) store output (record { table = table_in words'; columns = r }) store' output'
+  pub words_are : words' ≡ kept_words (is_accepted r.answer) (table_in words') words
 
 pub record LinePut (line words store output : List ℕ) (r : Columns) (words' store' output' : List ℕ) : Type 0 where
-  pub joined : LineJoined (readLine line lsduRoom) (lsduOf line) (tableIn words) store output (record { table = tableIn words'; columns = r }) store' output'
-  pub words_are : words' ≡ keptWords (isAccepted r.answer) (tableIn words') words
+  pub joined : LineJoined (read_line line lsdu_room) (lsdu_of line) (table_in words) store output (record { table = table_in words'; columns = r }) store' output'
+  pub words_are : words' ≡ kept_words (is_accepted r.answer) (table_in words') words
 
 pub record SweepPut (words : List ℕ) (call : SweepResult) (r : ℕ) (words' : List ℕ) : Type 0 where
-  pub number_is : r ≡ sweepNumber call.answer
-  pub words_are : words' ≡ keptTable (isSwept call.answer) call.table words
+  pub number_is : r ≡ sweep_number call.answer
+  pub words_are : words' ≡ kept_table (is_swept call.answer) call.table words

@@ -3,94 +3,94 @@
 -- Assumes nothing.
 use Rattle.std.specs.Prelude.{ℕ, ◌-◌, ◌≤◌, ◌<◌, Bool, false, ◌≡◌, List, ◌++◌, eqb, ltb, length, get_or, drop}
 use Rattle.refusals.specs.Check.{pick}
-use Rattle.bits.specs.Strings.{stringAt, copyFits, copyString}
-use Rattle.apdu_format.specs.Component.{octetString}
+use Rattle.bits.specs.Strings.{string_at, copy_fits, copy_string}
+use Rattle.apdu_format.specs.Component.{octet_string}
 use Rattle.apdu.specs.declared.lists.Entry.{Entry}
 use Rattle.apdu.specs.declared.lists.Lists.{Lists}
 use Rattle.apdu.specs.declared.lists.Row.{Row}
 use Rattle.apdu.specs.declared.records.Message.{Message}
 use Rattle.apdu.specs.declared.records.Message.TheVariants as kind
-use Rattle.apdu.specs.Values.{emptyRow, emptyEntry}
+use Rattle.apdu.specs.Values.{empty_row, empty_entry}
 use Rattle.apdu_reading.specs.declared.front.Answer.{Answer}
 use Rattle.apdu_reading.specs.declared.front.Answer.TheVariants as answer
 use Rattle.apdu_reading.specs.declared.front.Reading.{Reading}
 use Rattle.apdu_reading.specs.Answers.{Reads}
-use Rattle.words.specs.Answer.{answerNumber, Says, SaysRefused}
+use Rattle.words.specs.Answer.{answer_number, Says, SaysRefused}
 use Rattle.exports.specs.declared.strings.StringPart.{StringPart}
-use Rattle.exports.specs.Messages.{refusalNumber, refusalAt}
+use Rattle.exports.specs.Messages.{refusal_number, refusal_at}
 
 -- ---- which part
 
 abbrev pub part : Bool → ℕ → ℕ → StringPart
 part present start n = record { present = present; start = start; length = n }
 
-abbrev pub noString : StringPart
-noString = part false 0 0
+abbrev pub no_string : StringPart
+no_string = part false 0 0
 
-abbrev pub credentialsIn : Message → StringPart
-credentialsIn (kind.ActionRequest m) = part m.has_credentials m.credentials m.credentials_length
-credentialsIn (kind.ActionResponse m) = noString
-credentialsIn (kind.EventRequest m) = part m.has_credentials m.credentials m.credentials_length
-credentialsIn (kind.EventResponse m) = noString
-credentialsIn (kind.SetRequest m) = part m.has_credentials m.credentials m.credentials_length
-credentialsIn (kind.SetResponse m) = noString
-credentialsIn (kind.GetRequest m) = part m.has_credentials m.credentials m.credentials_length
-credentialsIn (kind.GetResponse m) = noString
-credentialsIn (kind.Bst m) = noString
-credentialsIn (kind.Vst m) = noString
+abbrev pub credentials_in : Message → StringPart
+credentials_in (kind.ActionRequest m) = part m.has_credentials m.credentials m.credentials_length
+credentials_in (kind.ActionResponse m) = no_string
+credentials_in (kind.EventRequest m) = part m.has_credentials m.credentials m.credentials_length
+credentials_in (kind.EventResponse m) = no_string
+credentials_in (kind.SetRequest m) = part m.has_credentials m.credentials m.credentials_length
+credentials_in (kind.SetResponse m) = no_string
+credentials_in (kind.GetRequest m) = part m.has_credentials m.credentials m.credentials_length
+credentials_in (kind.GetResponse m) = no_string
+credentials_in (kind.Bst m) = no_string
+credentials_in (kind.Vst m) = no_string
 
-abbrev pub parameterIn : Message → StringPart
-parameterIn (kind.ActionRequest m) = part (eqb m.kind octetString) m.start m.n
-parameterIn (kind.ActionResponse m) = part (eqb m.kind octetString) m.start m.n
-parameterIn (kind.EventRequest m) = part (eqb m.kind octetString) m.start m.n
-parameterIn (kind.EventResponse m) = noString
-parameterIn (kind.SetRequest m) = noString
-parameterIn (kind.SetResponse m) = noString
-parameterIn (kind.GetRequest m) = noString
-parameterIn (kind.GetResponse m) = noString
-parameterIn (kind.Bst m) = noString
-parameterIn (kind.Vst m) = noString
+abbrev pub parameter_in : Message → StringPart
+parameter_in (kind.ActionRequest m) = part (eqb m.kind octet_string) m.start m.n
+parameter_in (kind.ActionResponse m) = part (eqb m.kind octet_string) m.start m.n
+parameter_in (kind.EventRequest m) = part (eqb m.kind octet_string) m.start m.n
+parameter_in (kind.EventResponse m) = no_string
+parameter_in (kind.SetRequest m) = no_string
+parameter_in (kind.SetResponse m) = no_string
+parameter_in (kind.GetRequest m) = no_string
+parameter_in (kind.GetResponse m) = no_string
+parameter_in (kind.Bst m) = no_string
+parameter_in (kind.Vst m) = no_string
 
-abbrev pub rowString : Row → StringPart
-rowString row = part (eqb row.kind octetString) row.start row.n
+abbrev pub row_string : Row → StringPart
+row_string row = part (eqb row.kind octet_string) row.start row.n
 
-abbrev pub entryString : Entry → StringPart
-entryString entry = part (eqb entry.kind octetString) entry.start entry.n
+abbrev pub entry_string : Entry → StringPart
+entry_string entry = part (eqb entry.kind octet_string) entry.start entry.n
 
-unfoldable pub stringPart : Message → Lists → ℕ → StringPart
-stringPart m lists field =
-    pick (eqb field 0) (credentialsIn m)
-    (pick (eqb field 1) (parameterIn m)
-    (pick (ltb field 34) (rowString (get_or lists.rows (field - 2) emptyRow))
-    (pick (ltb field 66) (entryString (get_or lists.entries (field - 34) emptyEntry)) noString)))
+unfoldable pub string_part : Message → Lists → ℕ → StringPart
+string_part m lists field =
+    pick (eqb field 0) (credentials_in m)
+    (pick (eqb field 1) (parameter_in m)
+    (pick (ltb field 34) (row_string (get_or lists.rows (field - 2) empty_row))
+    (pick (ltb field 66) (entry_string (get_or lists.entries (field - 34) empty_entry)) no_string)))
 
 -- ---- the answer
 
 -- kind 0: no such string; kind 1: a string of so many octets; 22 where they do not fit into the output
-unfoldable pub stringNumber : List ℕ → StringPart → List ℕ → ℕ
-stringNumber s p out =
+unfoldable pub string_number : List ℕ → StringPart → List ℕ → ℕ
+string_number s p out =
     pick p.present
-    (pick (copyFits s p.start p.length out 0) (answerNumber 0 1 p.length 0) (refusalNumber 22))
-    (answerNumber 0 0 0 0)
+    (pick (copy_fits s p.start p.length out 0) (answer_number 0 1 p.length 0) (refusal_number 22))
+    (answer_number 0 0 0 0)
 
 -- the string's octets from the front, and every other octet as it was
-unfoldable pub stringOutput : List ℕ → StringPart → List ℕ → List ℕ
-stringOutput s p out = pick p.present (copyString s p.start p.length out 0) out
+unfoldable pub string_output : List ℕ → StringPart → List ℕ → List ℕ
+string_output s p out = pick p.present (copy_string s p.start p.length out 0) out
 
-unfoldable pub fieldNumber : List ℕ → Lists → ℕ → List ℕ → Answer → ℕ
-fieldNumber s lists field out (answer.Refused k p) = refusalAt k p
-fieldNumber s lists field out (answer.Message m) = stringNumber s (stringPart m lists field) out
+unfoldable pub field_number : List ℕ → Lists → ℕ → List ℕ → Answer → ℕ
+field_number s lists field out (answer.Refused k p) = refusal_at k p
+field_number s lists field out (answer.Message m) = string_number s (string_part m lists field) out
 
-unfoldable pub fieldOutput : List ℕ → Lists → ℕ → List ℕ → Answer → List ℕ
-fieldOutput s lists field out (answer.Refused k p) = out
-fieldOutput s lists field out (answer.Message m) = stringOutput s (stringPart m lists field) out
+unfoldable pub field_output : List ℕ → Lists → ℕ → List ℕ → Answer → List ℕ
+field_output s lists field out (answer.Refused k p) = out
+field_output s lists field out (answer.Message m) = string_output s (string_part m lists field) out
 
 -- the contract: the answer and the output are those of the definition, for the record that reading makes of s
 pub record StringGives (s : List ℕ) (field : ℕ) (out : List ℕ) (r : ℕ) (out' : List ℕ) : Type 0 where
   pub reading : Reading
   pub reads : Reads s reading
-  pub is : r ≡ fieldNumber s reading.lists field out reading.answer
-  pub output-is : out' ≡ fieldOutput s reading.lists field out reading.answer
+  pub is : r ≡ field_number s reading.lists field out reading.answer
+  pub output_is : out' ≡ field_output s reading.lists field out reading.answer
 
 -- ---- the promise (proofs/StringInside.antt proves it; `string` cites it): every string of a message lies inside it, whichever its number, so 22 says
 -- that the output is shorter than the string, and nothing else; and what is taken out of the number is what is answered
@@ -98,13 +98,13 @@ pub record StringGives (s : List ℕ) (field : ℕ) (out : List ℕ) (r : ℕ) (
 -- a string that is there
 pub record StringTold (s : List ℕ) (p : StringPart) (out : List ℕ) (r : ℕ) (out' : List ℕ) : Type 0 where
   pub small : length out < p.length → SaysRefused r 22 0 × (out' ≡ out)
-  pub large : p.length ≤ length out → Says r 0 1 p.length 0 × (out' ≡ stringAt s p.start p.length ++ drop p.length out)
+  pub large : p.length ≤ length out → Says r 0 1 p.length 0 × (out' ≡ string_at s p.start p.length ++ drop p.length out)
 
 -- reading's refusal; no such string; or the string
 unfoldable pub FieldTold : (s : List ℕ) → Lists → (field : ℕ) → (out : List ℕ) → Answer → (r : ℕ) → (out' : List ℕ) → Type 0
 FieldTold s lists field out (answer.Refused k p) r out' = SaysRefused r k p × (out' ≡ out)
 FieldTold s lists field out (answer.Message m) r out' =
-    let p = stringPart m lists field in pick p.present (StringTold s p out r out') (Says r 0 0 0 0 × (out' ≡ out))
+    let p = string_part m lists field in pick p.present (StringTold s p out r out') (Says r 0 0 0 0 × (out' ≡ out))
 
 unfoldable pub EachString : Type 0
 EachString =

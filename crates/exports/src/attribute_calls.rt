@@ -1,11 +1,11 @@
 // The directory, as five words for each row (id, area, start, length, protected), and the request call.
 ghost use Rattle.std.specs.Prelude.{◌≡◌};
 ghost use Rattle.attributes.specs.Inside.{tag_of};
-ghost use Rattle.attributes.specs.Serving.{toldOf};
+ghost use Rattle.attributes.specs.Serving.{told_of};
 ghost use Rattle.refusals.specs.Check.{pick};
-ghost use Rattle.words.specs.RowWords.{rowsIn};
-ghost use Rattle.words.specs.Word.{narrowTo};
-ghost use Rattle.exports.specs.AttributeCalls.{outcomeNumber, RequestGives, LookupGives, UnpackingRequest, UnpackingLookup, LargeSought};
+ghost use Rattle.words.specs.RowWords.{rows_in};
+ghost use Rattle.words.specs.Word.{narrow_to};
+ghost use Rattle.exports.specs.AttributeCalls.{outcome_number, RequestGives, LookupGives, UnpackingRequest, UnpackingLookup, LargeSought};
 
 use attributes::RequestOutcome;
 use directory::KnowsAnswer;
@@ -14,7 +14,7 @@ use words::{directory_in, narrow, packed, put_part};
 const PART_WORDS: usize = 3;
 
 fn told(outcome: RequestOutcome) -> u64
-    ensures { result ≡ outcomeNumber (toldOf outcome) }
+    ensures { result ≡ outcome_number (told_of outcome) }
 {
     match outcome {
         RequestOutcome::Refused(number) => packed(number, 0, 0, 0),
@@ -36,7 +36,7 @@ pub extern "C" fn semuryeon_request(
     writable: &mut [u8],
     out: &mut [u8],
 ) -> u64
-    ensures answer { RequestGives (tag_of eid credentials.now (rowsIn rows.now) factory.now writable.old) s.now out.old result writable.new out.new }
+    ensures answer { RequestGives (tag_of eid credentials.now (rows_in rows.now) factory.now writable.old) s.now out.old result writable.new out.new }
     ensures unpacking { UnpackingRequest }
 {
     let d = directory_in(rows);
@@ -71,7 +71,7 @@ pub extern "C" fn semuryeon_lookup(
     writable: usize,
     part: &mut [u32],
 ) -> u64
-    ensures answer { LookupGives factory writable (rowsIn rows.now) (narrowTo 8 id) part.old result part.new }
+    ensures answer { LookupGives factory writable (rows_in rows.now) (narrow_to 8 id) part.old result part.new }
     ensures unpacking { UnpackingLookup }
     ensures large_id { LargeSought }
 {

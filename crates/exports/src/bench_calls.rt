@@ -1,7 +1,7 @@
 // One line of a recording through the joining, and the line that the bench prints of it.
 ghost use Rattle.std.specs.Prelude.{◌≡◌, ◌≤◌, length};
-ghost use Rattle.bench_lines.specs.Text.{answerText, answerLineText, written};
-ghost use Rattle.exports.specs.BenchLine.{textOctets, BenchLineExported, RoomForEach};
+ghost use Rattle.bench_lines.specs.Text.{answer_text, answer_line_text, written};
+ghost use Rattle.exports.specs.BenchLine.{text_octets, BenchLineExported, RoomForEach};
 ghost use Rattle.exports.specs.Putting.{LsduPut, LinePut};
 
 use crate::fragments::joined;
@@ -42,8 +42,8 @@ fn take(line: &[u8], table: &mut [u32], store: &mut [u8], out: &mut [u8]) -> Col
 
 // Writes a line of output to the front of `text` and answers how many octets it has.
 fn show(number: u64, answer: BenchAnswer, octets: u64, dropped: u64, text: &mut [u8]) -> usize
-    requires { (textOctets ≤ length text.old) × (length (answerText answer) ≤ 29) }
-    ensures { (result ≡ length (answerLineText number answer octets dropped)) × (text.new ≡ written text.old 0 (answerLineText number answer octets dropped)) × (result ≤ textOctets) }
+    requires { (text_octets ≤ length text.old) × (length (answer_text answer) ≤ 29) }
+    ensures { (result ≡ length (answer_line_text number answer octets dropped)) × (text.new ≡ written text.old 0 (answer_line_text number answer octets dropped)) × (result ≤ text_octets) }
 {
     match bench_lines::append_answer(number, answer, octets, dropped, text, 0) {
         Appended::Next(n) => n,

@@ -1,8 +1,8 @@
 // Joining: the table lives in 41 words, all zero at first, and the store and output are lent.
 ghost use Rattle.std.specs.Prelude.{◌≡◌};
 ghost use Rattle.exports.specs.ExportedRuns.{ExportedDemand, ExportedRunsExist};
-ghost use Rattle.exports.specs.Fragments.{is_taken, fragmentNumber, FragmentExported, ExpiryExported, ReleaseExported};
-ghost use Rattle.exports.specs.Putting.{keptChange, FragmentPut, SweepPut};
+ghost use Rattle.exports.specs.Fragments.{is_taken, fragment_number, FragmentExported, ExpiryExported, ReleaseExported};
+ghost use Rattle.exports.specs.Putting.{kept_change, FragmentPut, SweepPut};
 
 use reassembly::FragmentAnswer;
 use slots::{Slot, SweepAnswer, SweepResult};
@@ -19,7 +19,7 @@ fn taken(answer: FragmentAnswer) -> bool
 }
 
 fn fragment_number(answer: FragmentAnswer) -> u64
-    ensures { result ≡ fragmentNumber answer }
+    ensures { result ≡ fragment_number answer }
 {
     match answer {
         FragmentAnswer::Held { octets, dropped } => packed(0, 1, octets, dropped),
@@ -30,7 +30,7 @@ fn fragment_number(answer: FragmentAnswer) -> u64
 
 // Puts the slot that an accepted call has changed; after a refusal the words stay as they were.
 fn keep_change(accepted: bool, i: usize, slot: Slot, table: &mut [u32])
-    ensures { table.new ≡ keptChange accepted i slot table.old }
+    ensures { table.new ≡ kept_change accepted i slot table.old }
 {
     if !accepted {
         return;

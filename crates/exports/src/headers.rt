@@ -1,14 +1,14 @@
 // The fragment header.
 ghost use Rattle.std.specs.Prelude.{◌≡◌, length};
-ghost use Rattle.header.specs.Header.{readHeader, writeHeader, outputAfter};
-ghost use Rattle.exports.specs.Headers.{sizeAndMark, readNumber, headerFrom, writtenNumber, UnpackingRead, UnpackingWritten, LargeNumber};
+ghost use Rattle.header.specs.Header.{read_header, write_header, output_after};
+ghost use Rattle.exports.specs.Headers.{size_and_mark, read_number, header_from, written_number, UnpackingRead, UnpackingWritten, LargeNumber};
 
 use header::{Header, HeaderRead, HeaderWritten};
 use words::packed;
 
 // The header's octets, and 4 more with the last mark.
 fn size_and_mark(size: usize, last: bool) -> usize
-    ensures { result ≡ sizeAndMark size last }
+    ensures { result ≡ size_and_mark size last }
 {
     if last { size % 4 + 4 } else { size % 4 }
 }
@@ -16,7 +16,7 @@ fn size_and_mark(size: usize, last: bool) -> usize
 // The header at the front of `s`: kind is the PDU number, first the counter, second the header's octets, and 4 more with the last mark. Refused 5.
 #[unsafe(no_mangle)]
 pub extern "C" fn semuryeon_header_read(s: &[u8]) -> u64
-    ensures answer { result ≡ readNumber (readHeader s.now) }
+    ensures answer { result ≡ read_number (read_header s.now) }
     ensures unpacking { UnpackingRead }
 {
     match header::read(s) {
@@ -38,7 +38,7 @@ pub extern "C" fn semuryeon_header_write(
     counter: u32,
     out: &mut [u8],
 ) -> u64
-    ensures answer { (result ≡ writtenNumber (writeHeader (headerFrom last number counter) (length out.old))) × (out.new ≡ outputAfter (writeHeader (headerFrom last number counter) (length out.old)) (headerFrom last number counter) out.old) }
+    ensures answer { (result ≡ written_number (write_header (header_from last number counter) (length out.old))) × (out.new ≡ output_after (write_header (header_from last number counter) (length out.old)) (header_from last number counter) out.old) }
     ensures unpacking { UnpackingWritten }
     ensures large_number { LargeNumber }
 {

@@ -1,10 +1,10 @@
 // The tag's link, in six words, all zero at first.
 ghost use Rattle.std.specs.Prelude.{◌≡◌};
-ghost use Rattle.initialisation.specs.Link.{answer_of, releaseOf, tickOf};
-ghost use Rattle.initialisation.specs.Hearing.{replyOf, call};
+ghost use Rattle.initialisation.specs.Link.{answer_of, release_of, tick_of};
+ghost use Rattle.initialisation.specs.Hearing.{reply_of, call};
 ghost use Rattle.words.specs.LinkWords.{link_in};
-ghost use Rattle.words.specs.ElementWords.{elementsIn};
-ghost use Rattle.exports.specs.LinkCalls.{changeNumber, changeWords, ChangeGives, replyNumber, replyWords, effect, heardEffect, offerOf, brought, BstEffect};
+ghost use Rattle.words.specs.ElementWords.{elements_in};
+ghost use Rattle.exports.specs.LinkCalls.{change_number, change_words, ChangeGives, reply_number, reply_words, effect, heard_effect, offer_of, brought, BstEffect};
 ghost use Rattle.exports.specs.LinkCalls.{UnpackingRelease, UnpackingTick, UnpackingBst, KeptReleased, KeptTicked, KeptHeard};
 
 use apdu::{Bst, Lists, Message};
@@ -15,7 +15,7 @@ use words::{elements_in, link_in, packed, put_link};
 // ---- release and tick
 
 fn changed(res: LinkResult, link: &mut [u32]) -> u64
-    ensures { (result ≡ changeNumber (answer_of res.answer)) × (link.new ≡ changeWords (answer_of res.answer) res.link link.old) }
+    ensures { (result ≡ change_number (answer_of res.answer)) × (link.new ≡ change_words (answer_of res.answer) res.link link.old) }
 {
     let answer = res.answer;
     let after = res.link;
@@ -31,7 +31,7 @@ fn changed(res: LinkResult, link: &mut [u32]) -> u64
 // Release of a LID. Refused 3, 23, 25.
 #[unsafe(no_mangle)]
 pub extern "C" fn semuryeon_link_release(lid: u32, link: &mut [u32]) -> u64
-    ensures answer { ChangeGives (releaseOf lid (link_in link.old)) link.old result link.new }
+    ensures answer { ChangeGives (release_of lid (link_in link.old)) link.old result link.new }
     ensures unpacking { UnpackingRelease }
     ensures kept { KeptReleased }
 {
@@ -42,7 +42,7 @@ pub extern "C" fn semuryeon_link_release(lid: u32, link: &mut [u32]) -> u64
 // A tick passes. Refused 23.
 #[unsafe(no_mangle)]
 pub extern "C" fn semuryeon_link_tick(tick: u32, link: &mut [u32]) -> u64
-    ensures answer { ChangeGives (tickOf tick (link_in link.old)) link.old result link.new }
+    ensures answer { ChangeGives (tick_of tick (link_in link.old)) link.old result link.new }
     ensures unpacking { UnpackingTick }
     ensures kept { KeptTicked }
 {
@@ -60,7 +60,7 @@ pub(crate) enum Offer {
 }
 
 fn offer_of(m: Message) -> Offer
-    ensures { result ≡ offerOf m }
+    ensures { result ≡ offer_of m }
 {
     match m {
         Message::ActionRequest(_) => Offer::Other,
@@ -77,7 +77,7 @@ fn offer_of(m: Message) -> Offer
 }
 
 fn replied(res: BstResult, link: &mut [u32]) -> u64
-    ensures { (result ≡ replyNumber (replyOf res.answer)) × (link.new ≡ replyWords (replyOf res.answer) res.link link.old) }
+    ensures { (result ≡ reply_number (reply_of res.answer)) × (link.new ≡ reply_words (reply_of res.answer) res.link link.old) }
 {
     let answer = res.answer;
     let after = res.link;
@@ -106,7 +106,7 @@ fn hear(
     configuration: Configuration,
     out: &mut [u8],
 ) -> u64
-    ensures { effect result link.new out.new ≡ heardEffect link.old (call (link_in link.old) bst lists s.now tick lid (elementsIn elements.now) marks.now configuration out.old) }
+    ensures { effect result link.new out.new ≡ heard_effect link.old (call (link_in link.old) bst lists s.now tick lid (elements_in elements.now) marks.now configuration out.old) }
 {
     let result = initialisation::hear_bst(
         link_in(link),
@@ -138,7 +138,7 @@ pub extern "C" fn semuryeon_link_bst(
     status: u32,
     out: &mut [u8],
 ) -> u64
-    ensures answer { BstEffect (brought link.old tick lid (elementsIn elements.now) marks.now (record { class = class; maker = maker; status = status }) out.old) s.now result link.new out.new }
+    ensures answer { BstEffect (brought link.old tick lid (elements_in elements.now) marks.now (record { class = class; maker = maker; status = status }) out.old) s.now result link.new out.new }
     ensures unpacking { UnpackingBst }
     ensures kept { KeptHeard }
 {

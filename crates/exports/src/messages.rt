@@ -1,9 +1,9 @@
 // Messages: whether octets are one, and the message written again.
 ghost use Rattle.std.specs.Prelude.{◌≡◌, length};
-ghost use Rattle.apdu_format.specs.Reading.{readMessage};
+ghost use Rattle.apdu_format.specs.Reading.{read_message};
 ghost use Rattle.apdu_writing.specs.Answer as writing;
-ghost use Rattle.apdu_rewriting.specs.Rewriting.{answer_of, rewriteAnswer, rewriteOutput};
-ghost use Rattle.exports.specs.Messages.{choice_of, checkNumber, checkedNumber, writtenNumber, UnpackingCheck, UnpackingRewritten};
+ghost use Rattle.apdu_rewriting.specs.Rewriting.{answer_of, rewrite_answer, rewrite_output};
+ghost use Rattle.exports.specs.Messages.{choice_of, check_number, checked_number, written_number, UnpackingCheck, UnpackingRewritten};
 
 use apdu::Message;
 use apdu_reading::Answer;
@@ -30,7 +30,7 @@ fn choice_of(m: Message) -> u8
 }
 
 fn checked(answer: Answer) -> u64
-    ensures { result ≡ checkedNumber answer }
+    ensures { result ≡ checked_number answer }
 {
     match answer {
         Answer::Message(m) => packed(0, choice_of(m), 0, 0),
@@ -41,7 +41,7 @@ fn checked(answer: Answer) -> u64
 // Whether `s` is a message: kind is its choice. Refused as reading refuses; first is then the position.
 #[unsafe(no_mangle)]
 pub extern "C" fn semuryeon_check(s: &[u8]) -> u64
-    ensures answer { result ≡ checkNumber (readMessage s.now) }
+    ensures answer { result ≡ check_number (read_message s.now) }
     ensures unpacking { UnpackingCheck }
 {
     let reading = apdu_reading::read(s);
@@ -50,7 +50,7 @@ pub extern "C" fn semuryeon_check(s: &[u8]) -> u64
 }
 
 fn written(w: ApduWritten) -> u64
-    ensures { result ≡ writtenNumber (writing.answer_of w) }
+    ensures { result ≡ written_number (writing.answer_of w) }
 {
     match w {
         ApduWritten::RecordOutOfRange => packed(refusals::RECORD_OUT_OF_RANGE, 0, 0, 0),
@@ -61,7 +61,7 @@ fn written(w: ApduWritten) -> u64
 }
 
 fn rewritten(answer: Rewritten) -> u64
-    ensures { result ≡ writtenNumber (answer_of answer) }
+    ensures { result ≡ written_number (answer_of answer) }
 {
     match answer {
         Rewritten::Refused(number, position) => packed(number, 0, position, 0),
@@ -73,7 +73,7 @@ fn rewritten(answer: Rewritten) -> u64
 // position; then 22.
 #[unsafe(no_mangle)]
 pub extern "C" fn semuryeon_rewrite(s: &[u8], out: &mut [u8]) -> u64
-    ensures answer { (result ≡ writtenNumber (rewriteAnswer s.now (length out.old))) × (out.new ≡ rewriteOutput s.now out.old) }
+    ensures answer { (result ≡ written_number (rewrite_answer s.now (length out.old))) × (out.new ≡ rewrite_output s.now out.old) }
     ensures unpacking { UnpackingRewritten }
 {
     let answer = apdu_rewriting::rewrite(s, out);

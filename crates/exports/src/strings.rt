@@ -1,7 +1,7 @@
 // The octet strings of a message by number: 0 the credentials, 1 the parameter, 2 to 33 the attribute rows in the order of the message, 34 to 65 the parameters of the
 // application entries.
 ghost use Rattle.std.specs.Prelude.{◌≡◌};
-ghost use Rattle.exports.specs.Strings.{part, noString, credentialsIn, parameterIn, rowString, entryString, stringPart, stringNumber, stringOutput, StringGives, EachString};
+ghost use Rattle.exports.specs.Strings.{part, no_string, credentials_in, parameter_in, row_string, entry_string, string_part, string_number, string_output, StringGives, EachString};
 
 use apdu::{Entry, Lists, Message, Row};
 use apdu_reading::Answer;
@@ -36,7 +36,7 @@ fn string_part(present: bool, start: usize, length: u64) -> StringPart
 }
 
 fn no_string() -> StringPart
-    ensures { result ≡ noString }
+    ensures { result ≡ no_string }
 {
     StringPart {
         present: false,
@@ -46,7 +46,7 @@ fn no_string() -> StringPart
 }
 
 fn credentials_of(m: Message) -> StringPart
-    ensures { result ≡ credentialsIn m }
+    ensures { result ≡ credentials_in m }
 {
     match m {
         Message::ActionRequest(x) => {
@@ -77,7 +77,7 @@ fn credentials_of(m: Message) -> StringPart
 }
 
 fn parameter_of(m: Message) -> StringPart
-    ensures { result ≡ parameterIn m }
+    ensures { result ≡ parameter_in m }
 {
     match m {
         Message::ActionRequest(x) => string_part(x.kind == apdu::OCTET_STRING, x.start, x.n),
@@ -94,7 +94,7 @@ fn parameter_of(m: Message) -> StringPart
 }
 
 fn row_string(row: Row) -> StringPart
-    ensures { result ≡ rowString row }
+    ensures { result ≡ row_string row }
 {
     string_part(
         row.kind as u64 == apdu::OCTET_STRING,
@@ -104,7 +104,7 @@ fn row_string(row: Row) -> StringPart
 }
 
 fn entry_string(entry: Entry) -> StringPart
-    ensures { result ≡ entryString entry }
+    ensures { result ≡ entry_string entry }
 {
     string_part(
         entry.kind as u64 == apdu::OCTET_STRING,
@@ -114,7 +114,7 @@ fn entry_string(entry: Entry) -> StringPart
 }
 
 fn part_of(m: Message, lists: Lists, field: u32) -> StringPart
-    ensures { result ≡ stringPart m lists field }
+    ensures { result ≡ string_part m lists field }
 {
     if field == CREDENTIALS {
         return credentials_of(m);
@@ -136,7 +136,7 @@ fn part_of(m: Message, lists: Lists, field: u32) -> StringPart
 }
 
 fn give(s: &[u8], p: StringPart, out: &mut [u8]) -> u64
-    ensures { (result ≡ stringNumber s.now p out.old) × (out.new ≡ stringOutput s.now p out.old) }
+    ensures { (result ≡ string_number s.now p out.old) × (out.new ≡ string_output s.now p out.old) }
 {
     if !p.present {
         return packed(0, 0, 0, 0);

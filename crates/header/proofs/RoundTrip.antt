@@ -8,21 +8,21 @@ use lib.Dec.{ltb}
 use lib.ListN.{length, drop, take-append-drop}
 use borrow.Author.Tests.{le-ltb}
 use Rattle.refusals.specs.Check.{pick, first_of, refused, accepted, decided}
-use Rattle.header.specs.Header.{readHeader, writeRefusal, writeHeader, outputAfter}
+use Rattle.header.specs.Header.{read_header, write_refusal, write_header, output_after}
 use Rattle.header.specs.RoundTrip.{ReadingWritten, WritingRead, ReadingExact}
-use Rattle.header.proofs.Writing.{accepted-is}
+use Rattle.header.proofs.Writing.{accepted_is}
 use Rattle.header.proofs.ReadingBack.{reading}
 use Rattle.header.proofs.WritingBack.{again}
 
-pub reading-written : ReadingWritten
-unfolding ReadingWritten outputAfter
-reading-written h output n e =
-    let a = accepted-is h (length output) n e in
+pub reading_written : ReadingWritten
+unfolding ReadingWritten output_after
+reading_written h output n e =
+    let a = accepted_is h (length output) n e in
     rw a.1 at (reading h (drop n output) a.0)
 
-pub writing-read : WritingRead
-unfolding WritingRead writeHeader writeRefusal first_of outputAfter
-writing-read s f output octs e =
+pub writing_read : WritingRead
+unfolding WritingRead write_header write_refusal first_of output_after
+writing_read s f output octs e =
     let a = again s f octs e in
     let r = a.in_range in
     record {
@@ -35,11 +35,11 @@ writing-read s f output octs e =
     room true k = unfold decided in refl
     room false k = unfold decided in refl
 
-pub reading-exact : ReadingExact
+pub reading_exact : ReadingExact
 unfolding ReadingExact ReadingWritten WritingRead
-reading-exact s h n octs = (
-  (λ w. ap readHeader w.is ∙ reading-written h w.output n w.answer),
+reading_exact s h n octs = (
+  (λ w. ap read_header w.is ∙ reading_written h w.output n w.answer),
   (λ e.
-      let r = writing-read s (record { header = h; size = n }) s octs e in
+      let r = writing_read s (record { header = h; size = n }) s octs e in
       record { output = s; answer = rw (le-ltb _ _ r.inside) at r.answer; is = sym (r.same ∙ take-append-drop n s) }),
 )

@@ -15,34 +15,34 @@ use Rattle.header.specs.declared.HeaderWritten.TheVariants as written
 -- ---- reading
 
 -- the end bit of octet i
-unfoldable pub endBit : List ℕ → ℕ → ℕ
-endBit s i = field s (8 * i + 7) 1
+unfoldable pub end_bit : List ℕ → ℕ → ℕ
+end_bit s i = field s (8 * i + 7) 1
 
 -- how many octets the end bits give the header
-unfoldable pub headerLength : List ℕ → ℕ
-headerLength s = pick (eqb (endBit s 0) 1) 1 (pick (eqb (endBit s 1) 1) 2 3)
+unfoldable pub header_length : List ℕ → ℕ
+header_length s = pick (eqb (end_bit s 0) 1) 1 (pick (eqb (end_bit s 1) 1) 2 3)
 
 -- the counter in one octet, and with seven bits more in two and in three
-unfoldable pub counterIn : List ℕ → ℕ → ℕ
-counterIn s n =
+unfoldable pub counter_in : List ℕ → ℕ → ℕ
+counter_in s n =
     pick (eqb n 1) (field s 5 2)
     (pick (eqb n 2) (field s 5 2 * 128 + field s 8 7) ((field s 5 2 * 128 + field s 8 7) * 128 + field s 16 7))
 
 -- how many octets a counter needs: one for 0 to 3, two for 4 to 511, three for 512 to 65,535
-unfoldable pub lengthFor : ℕ → ℕ
-lengthFor counter = pick (ltb counter 4) 1 (pick (ltb counter 512) 2 3)
+unfoldable pub length_for : ℕ → ℕ
+length_for counter = pick (ltb counter 4) 1 (pick (ltb counter 512) 2 3)
 
 -- the header at the front of s
-unfoldable pub headerOf : List ℕ → Header
-headerOf s = record { last = eqb (field s 0 1) 1; number = field s 1 4; counter = counterIn s (headerLength s) }
+unfoldable pub header_of : List ℕ → Header
+header_of s = record { last = eqb (field s 0 1) 1; number = field s 1 4; counter = counter_in s (header_length s) }
 
 -- refusal 5: cut short; the third octet's bit 0 is 1; longer than its counter needs
-unfoldable pub readRefusal : List ℕ → ℕ
-readRefusal s =
+unfoldable pub read_refusal : List ℕ → ℕ
+read_refusal s =
     first_of
-    (check 5 (ltb (length s) (headerLength s))
-    ∷ check 5 (eqb (headerLength s) 3 && eqb (endBit s 2) 1)
-    ∷ check 5 (ltb (lengthFor (headerOf s).counter) (headerLength s))
+    (check 5 (ltb (length s) (header_length s))
+    ∷ check 5 (eqb (header_length s) 3 && eqb (end_bit s 2) 1)
+    ∷ check 5 (ltb (length_for (header_of s).counter) (header_length s))
     ∷ []
     )
 
@@ -51,13 +51,13 @@ pub record Fields : Type 0 where
   pub header : Header
   pub size : ℕ
 
-unfoldable pub readHeader : List ℕ → Answer Fields
-readHeader s = decided (readRefusal s) (record { header = headerOf s; size = headerLength s })
+unfoldable pub read_header : List ℕ → Answer Fields
+read_header s = decided (read_refusal s) (record { header = header_of s; size = header_length s })
 
 -- 01's number and values for each case of the reader's answer
-unfoldable pub readAnswer : HeaderRead → Answer Fields
-readAnswer (read.Fields h n) = accepted (record { header = h; size = n })
-readAnswer (read.Refused k) = refused k
+unfoldable pub read_answer : HeaderRead → Answer Fields
+read_answer (read.Fields h n) = accepted (record { header = h; size = n })
+read_answer (read.Refused k) = refused k
 
 -- ---- writing
 
@@ -66,39 +66,39 @@ bit_of true = 1
 bit_of false = 0
 
 -- the first octet's bits: digits keeps the two low bits of what is left of the counter
-abbrev pub firstBits : Header → ℕ → ℕ → List ℕ
-firstBits h counter end = digits 1 (bit_of h.last) ++ (digits 4 h.number ++ (digits 2 counter ++ digits 1 end))
+abbrev pub first_bits : Header → ℕ → ℕ → List ℕ
+first_bits h counter end = digits 1 (bit_of h.last) ++ (digits 4 h.number ++ (digits 2 counter ++ digits 1 end))
 
 -- the bits of an octet that continues the counter
-abbrev pub nextBits : ℕ → ℕ → List ℕ
-nextBits counter end = digits 7 counter ++ digits 1 end
+abbrev pub next_bits : ℕ → ℕ → List ℕ
+next_bits counter end = digits 7 counter ++ digits 1 end
 
 -- the header's bits in one, two and three octets
-unfoldable pub headerBits : Header → List ℕ
-headerBits h =
+unfoldable pub header_bits : Header → List ℕ
+header_bits h =
     let c = h.counter in
-    pick (ltb c 4) (firstBits h c 1)
-    (pick (ltb c 512) (firstBits h (c / 128) 0 ++ nextBits c 1) (firstBits h (c / 16384) 0 ++ (nextBits (c / 128) 0 ++ nextBits c 0)))
+    pick (ltb c 4) (first_bits h c 1)
+    (pick (ltb c 512) (first_bits h (c / 128) 0 ++ next_bits c 1) (first_bits h (c / 16384) 0 ++ (next_bits (c / 128) 0 ++ next_bits c 0)))
 
 -- the octets of a header whose fields are in range
-unfoldable pub headerOctets : Header → List ℕ
-headerOctets h = octets (lengthFor h.counter) (headerBits h)
+unfoldable pub header_octets : Header → List ℕ
+header_octets h = octets (length_for h.counter) (header_bits h)
 
 -- refusal 23 for a field out of range, then 22 for an output of n octets that is too short
-unfoldable pub writeRefusal : Header → ℕ → ℕ
-writeRefusal h n =
-    first_of (check 23 (ltb 15 h.number) ∷ check 23 (ltb 65535 h.counter) ∷ check 22 (ltb n (lengthFor h.counter)) ∷ [])
+unfoldable pub write_refusal : Header → ℕ → ℕ
+write_refusal h n =
+    first_of (check 23 (ltb 15 h.number) ∷ check 23 (ltb 65535 h.counter) ∷ check 22 (ltb n (length_for h.counter)) ∷ [])
 
 -- how many octets are written
-unfoldable pub writeHeader : Header → ℕ → Answer ℕ
-writeHeader h n = decided (writeRefusal h n) (lengthFor h.counter)
+unfoldable pub write_header : Header → ℕ → Answer ℕ
+write_header h n = decided (write_refusal h n) (length_for h.counter)
 
 -- 01's number and value for each case of the writer's answer
-unfoldable pub writeAnswer : HeaderWritten → Answer ℕ
-writeAnswer (written.Octets n) = accepted n
-writeAnswer (written.Refused k) = refused k
+unfoldable pub write_answer : HeaderWritten → Answer ℕ
+write_answer (written.Octets n) = accepted n
+write_answer (written.Refused k) = refused k
 
 -- the output after an answer: the header's octets at its front and the rest as it was; a refusal leaves all as it was
-unfoldable pub outputAfter : Answer ℕ → Header → List ℕ → List ℕ
-outputAfter (refused k) h out = out
-outputAfter (accepted n) h out = headerOctets h ++ drop n out
+unfoldable pub output_after : Answer ℕ → Header → List ℕ → List ℕ
+output_after (refused k) h out = out
+output_after (accepted n) h out = header_octets h ++ drop n out

@@ -9,7 +9,7 @@ use Rattle.header.specs.declared.HeaderRead.{HeaderRead}
 use Rattle.header.specs.declared.HeaderRead.TheVariants as read
 use Rattle.header.specs.declared.HeaderWritten.{HeaderWritten}
 use Rattle.header.specs.declared.HeaderWritten.TheVariants as written
-use Rattle.header.specs.Header.{Fields, readHeader, readAnswer, writeHeader, writeAnswer, outputAfter}
+use Rattle.header.specs.Header.{Fields, read_header, read_answer, write_header, write_answer, output_after}
 use Rattle.header.specs.RoundTrip.{Rewritten, WrittenAs}
 
 -- last mark, message number and counter; and with the size in octets
@@ -67,8 +67,8 @@ pub record Writing : Type 0 where
 
 abbrev pub wrote : Writing → Left
 wrote c =
-    let answer = writeHeader c.header (length c.output) in
-    record { answer = answer; output = outputAfter answer c.header c.output }
+    let answer = write_header c.header (length c.output) in
+    record { answer = answer; output = output_after answer c.header c.output }
 
 abbrev pub writes : Header → List ℕ → ℕ → List ℕ → Writing
 writes h before n after = record { header = h; output = before; gives = record { answer = accepted n; output = after } }
@@ -98,28 +98,28 @@ writings =
 
 -- ---- answers: an answer's own values, and a refusal's own number, whichever it is
 
-abbrev pub answersOfReading : List HeaderRead
-answersOfReading = read.Fields (made true 3 4) 6 ∷ read.Refused 5 ∷ read.Refused 7 ∷ []
+abbrev pub answers_of_reading : List HeaderRead
+answers_of_reading = read.Fields (made true 3 4) 6 ∷ read.Refused 5 ∷ read.Refused 7 ∷ []
 
-abbrev pub answersOfWriting : List HeaderWritten
-answersOfWriting = written.Octets 6 ∷ written.Refused 22 ∷ written.Refused 23 ∷ written.Refused 7 ∷ []
+abbrev pub answers_of_writing : List HeaderWritten
+answers_of_writing = written.Octets 6 ∷ written.Refused 22 ∷ written.Refused 23 ∷ written.Refused 7 ∷ []
 
 -- ---- what is proved
 
 pub record HeaderCasesHold : Type 0 where
-  pub reading : map (λ (c : Reading). readHeader c.octets) readings ≡ map (λ (c : Reading). c.gives) readings
+  pub reading : map (λ (c : Reading). read_header c.octets) readings ≡ map (λ (c : Reading). c.gives) readings
   pub writing : map wrote writings ≡ map (λ (c : Writing). c.gives) writings
-  pub reading-answers : map readAnswer answersOfReading ≡ accepted (sized true 3 4 6) ∷ refused 5 ∷ refused 7 ∷ []
-  pub writing-answers : map writeAnswer answersOfWriting ≡ accepted 6 ∷ refused 22 ∷ refused 23 ∷ refused 7 ∷ []
+  pub reading_answers : map read_answer answers_of_reading ≡ accepted (sized true 3 4 6) ∷ refused 5 ∷ refused 7 ∷ []
+  pub writing_answers : map write_answer answers_of_writing ≡ accepted 6 ∷ refused 22 ∷ refused 23 ∷ refused 7 ∷ []
   -- 91, read, is written again: to an output that is long enough, and refused by one that is too short
   pub again : Rewritten (0x91 ∷ 0xEE ∷ []) (sized true 2 0 1) (7 ∷ 8 ∷ [])
-  pub again-refused : Rewritten (0x91 ∷ 0xEE ∷ []) (sized true 2 0 1) []
+  pub again_refused : Rewritten (0x91 ∷ 0xEE ∷ []) (sized true 2 0 1) []
   -- not where more is said to be read than there is; not where the number is out of range (18 has the low bits of 2); not where
   -- other octets were read
-  pub not-inside : Rewritten (0x91 ∷ []) (sized true 2 0 2) [] → ⊥
-  pub not-in-range : Rewritten (0x91 ∷ []) (sized true 18 0 1) (7 ∷ []) → ⊥
+  pub not_inside : Rewritten (0x91 ∷ []) (sized true 2 0 2) [] → ⊥
+  pub not_in_range : Rewritten (0x91 ∷ []) (sized true 18 0 1) (7 ∷ []) → ⊥
   pub not_same : Rewritten (0x97 ∷ []) (sized true 2 0 1) (7 ∷ []) → ⊥
   -- octets that hold a header in two octets; not in three, and not another header
   pub holding : WrittenAs (0x10 ∷ 0x09 ∷ 0xEE ∷ []) (made false 2 4) 2
-  pub not-in-three : WrittenAs (0x10 ∷ 0x09 ∷ 0xEE ∷ []) (made false 2 4) 3 → ⊥
-  pub not-another : WrittenAs (0x10 ∷ 0x09 ∷ 0xEE ∷ []) (made false 2 5) 2 → ⊥
+  pub not_in_three : WrittenAs (0x10 ∷ 0x09 ∷ 0xEE ∷ []) (made false 2 4) 3 → ⊥
+  pub not_another : WrittenAs (0x10 ∷ 0x09 ∷ 0xEE ∷ []) (made false 2 5) 2 → ⊥

@@ -1,6 +1,6 @@
 // The fragment header of ISO 15628, 6.3.3 (01, "Fragment header"): one to three octets in front of a fragment's payload.
 ghost use Rattle.std.specs.Prelude.{◌≡◌, ◌&&◌, ◌+◌, ◌*◌, ◌%◌, ◌<◌, ◌≤◌, eqb, length, get_or};
-ghost use Rattle.header.specs.Header.{endBit, headerLength, counterIn, lengthFor, readHeader, readAnswer, bit_of, writeHeader, writeAnswer, outputAfter};
+ghost use Rattle.header.specs.Header.{end_bit, header_length, counter_in, length_for, read_header, read_answer, bit_of, write_header, write_answer, output_after};
 ghost use Rattle.header.specs.RoundTrip.{ReadingWritten, ReadingExact, WritingRead};
 
 #[derive(Drop)]
@@ -39,14 +39,14 @@ fn octet(s: &[u8], i: usize) -> u32
 }
 
 fn end_bit(s: &[u8], i: usize) -> u32
-    ensures { result ≡ endBit s.now i }
+    ensures { result ≡ end_bit s.now i }
 {
     octet(s, i) % 2
 }
 
 // How many octets the end bits give the header.
 fn length_of(s: &[u8]) -> usize
-    ensures { result ≡ headerLength s.now }
+    ensures { result ≡ header_length s.now }
 {
     if end_bit(s, 0) == 1 {
         return 1;
@@ -59,7 +59,7 @@ fn length_of(s: &[u8]) -> usize
 
 // The counter of a header of `n` octets.
 fn counter_in(s: &[u8], n: usize) -> u32
-    ensures { result ≡ counterIn s.now n }
+    ensures { result ≡ counter_in s.now n }
 {
     let one = octet(s, 0) / 2 % 4;
     if n == 1 {
@@ -74,7 +74,7 @@ fn counter_in(s: &[u8], n: usize) -> u32
 
 // How many octets a counter needs.
 fn length_for(counter: u32) -> usize
-    ensures { result ≡ lengthFor counter }
+    ensures { result ≡ length_for counter }
 {
     if counter < 4 {
         return 1;
@@ -87,7 +87,7 @@ fn length_for(counter: u32) -> usize
 
 // A third octet whose bit 0 is 1.
 fn third_ends(s: &[u8], n: usize) -> bool
-    ensures { result ≡ (eqb n 3 && eqb (endBit s.now 2) 1) }
+    ensures { result ≡ (eqb n 3 && eqb (end_bit s.now 2) 1) }
 {
     if n == 3 {
         return end_bit(s, 2) == 1;
@@ -97,7 +97,7 @@ fn third_ends(s: &[u8], n: usize) -> bool
 
 // The header at the front of `s`; 5 where it is cut short, its third octet's bit 0 is 1, or it is longer than its counter needs.
 pub fn read(s: &[u8]) -> HeaderRead
-    ensures answer { readAnswer result ≡ readHeader s.now }
+    ensures answer { read_answer result ≡ read_header s.now }
     ensures written { ReadingWritten }
     ensures exact { ReadingExact }
 {
@@ -145,7 +145,7 @@ fn next_octet(counter: u32, end: u32) -> u8
 
 // Writes the header to the front of `out`; 23 for a field out of range, then 22 where `out` is too short.
 pub fn write(h: Header, out: &mut [u8]) -> HeaderWritten
-    ensures answer { (writeAnswer result ≡ writeHeader h (length out.old)) × (out.new ≡ outputAfter (writeAnswer result) h out.old) }
+    ensures answer { (write_answer result ≡ write_header h (length out.old)) × (out.new ≡ output_after (write_answer result) h out.old) }
     ensures again { WritingRead }
 {
     let last = h.last;

@@ -6,19 +6,19 @@ use borrow.Author.Tests.{lt-leb}
 use mir.ValLaws.{to_z-of_z}
 use Rattle.refusals.proofs.Tests.{by_cases}
 use Rattle.apdu_format.proofs.Tests.{never}
-use Rattle.initialisation.specs.Known.{elapsed, isSoon}
+use Rattle.initialisation.specs.Known.{elapsed, is_soon}
 
 -- ---- ranges
 
-soon : (z : ℤ) → lt_z z (pos 0) ≡ false → lt_z z (pos 255) ≡ true → true ≡ isSoon z
+soon : (z : ℤ) → lt_z z (pos 0) ≡ false → lt_z z (pos 255) ≡ true → true ≡ is_soon z
 soon (pos n) a b = sym (le-leb n 254 (omega (arith, ltb-true n 255 b)))
 soon (negsuc n) a b = never (sym a)
 
-late : (z : ℤ) → lt_z z (pos 255) ≡ false → false ≡ isSoon z
+late : (z : ℤ) → lt_z z (pos 255) ≡ false → false ≡ is_soon z
 late (pos n) b = sym (lt-leb n 254 (omega (arith, ltb-false n 255 b)))
 late (negsuc n) b = refl
 
-back : (z : ℤ) → lt_z z (pos 0) ≡ true → false ≡ isSoon z
+back : (z : ℤ) → lt_z z (pos 0) ≡ true → false ≡ is_soon z
 back (pos n) a = absurd (omega (arith, ltb-true n 0 a))
 back (negsuc n) a = refl
 
@@ -35,21 +35,21 @@ module _ (t s : ℕ) (a : t < 2 ^ 32) (b : s < 2 ^ 32) where
   abbrev machine : ℤ
   machine = to_z w64 t -ℤ to_z w64 s
 
-  machine-is : machine ≡ pos t -ℤ pos s
-  machine-is = ap₂ ◌-ℤ◌ (wide t a) (wide s b)
+  machine_is : machine ≡ pos t -ℤ pos s
+  machine_is = ap₂ ◌-ℤ◌ (wide t a) (wide s b)
 
   pub fits : SFits w64 machine
-  fits = rw machine-is (record { sfits = small t s a b })
+  fits = rw machine_is (record { sfits = small t s a b })
 
   difference : to_z w64 (of_z w64 machine) ≡ elapsed t s
   unfolding elapsed
-  difference = to_z-of_z w64 machine fits ∙ machine-is
+  difference = to_z-of_z w64 machine fits ∙ machine_is
 
-  pub is-soon : lt_z (to_z w64 (of_z w64 machine)) (pos 0) ≡ false → lt_z (to_z w64 (of_z w64 machine)) (pos 255) ≡ true → true ≡ isSoon (elapsed t s)
-  is-soon x y = rw (← difference) (soon (to_z w64 (of_z w64 machine)) x y)
+  pub is_soon_law : lt_z (to_z w64 (of_z w64 machine)) (pos 0) ≡ false → lt_z (to_z w64 (of_z w64 machine)) (pos 255) ≡ true → true ≡ is_soon (elapsed t s)
+  is_soon_law x y = rw (← difference) (soon (to_z w64 (of_z w64 machine)) x y)
 
-  pub is-late : lt_z (to_z w64 (of_z w64 machine)) (pos 255) ≡ false → false ≡ isSoon (elapsed t s)
-  is-late y = rw (← difference) (late (to_z w64 (of_z w64 machine)) y)
+  pub is_late : lt_z (to_z w64 (of_z w64 machine)) (pos 255) ≡ false → false ≡ is_soon (elapsed t s)
+  is_late y = rw (← difference) (late (to_z w64 (of_z w64 machine)) y)
 
-  pub is-back : lt_z (to_z w64 (of_z w64 machine)) (pos 0) ≡ true → false ≡ isSoon (elapsed t s)
-  is-back x = rw (← difference) (back (to_z w64 (of_z w64 machine)) x)
+  pub is_back : lt_z (to_z w64 (of_z w64 machine)) (pos 0) ≡ true → false ≡ is_soon (elapsed t s)
+  is_back x = rw (← difference) (back (to_z w64 (of_z w64 machine)) x)

@@ -3,20 +3,20 @@
 use Rattle.std.proofs.Common.{refl}
 use Rattle.refusals.specs.Check.{first_of}
 use Rattle.bits.specs.Bits.{digits, bits, number, field, octets}
-use Rattle.bits.specs.Strings.{isInside, stringAt}
+use Rattle.bits.specs.Strings.{is_inside, string_at}
 use Rattle.apdu_format.specs.Table.{layout_of}
-use Rattle.apdu_format.specs.Rules.{shape, checksOf, brings, announced, present, times, content}
-use Rattle.apdu_format.specs.Reading.{numbersOf, through, fields_of, value_at}
-use Rattle.apdu_format.specs.Writing.{fieldBits, fieldsFit, bits_of, areBits, fits, is_value, putValue, putFirst, put, puts, written, none, in_range, encode, size, encodedOctets}
-use Rattle.apdu.specs.Values.{headValues, rowsValues, entryValues, entriesValues, entry_rows, rows_of, idsAt, bstValues, vstValues, values_of}
-use Rattle.apdu.specs.Sound.{entrySound, entriesSound, bstSound, sound, rowsPresent, rowsFit, wellFormed}
-use Rattle.initialisation.specs.Link.{changed, releaseOf, tickOf}
-use Rattle.initialisation.specs.Elements.{elementSound, noneHas, eachSound, elementsSound}
-use Rattle.initialisation.specs.Offer.{firstServed, profileOf, offeredBy, elementOf, pair_of}
+use Rattle.apdu_format.specs.Rules.{shape, checks_of, brings, announced, present, times, content}
+use Rattle.apdu_format.specs.Reading.{numbers_of, through, fields_of, value_at}
+use Rattle.apdu_format.specs.Writing.{field_bits, fields_fit, bits_of, are_bits, fits, is_value, put_value, put_first, put, puts, written, none, in_range, encode, size, encoded_octets}
+use Rattle.apdu.specs.Values.{head_values, rows_values, entry_values, entries_values, entry_rows, rows_of, ids_at, bst_values, vst_values, values_of}
+use Rattle.apdu.specs.Sound.{entry_sound, entries_sound, bst_sound, sound, rows_present, rows_fit, well_formed}
+use Rattle.initialisation.specs.Link.{changed, release_of, tick_of}
+use Rattle.initialisation.specs.Elements.{element_sound, none_has, each_sound, elements_sound}
+use Rattle.initialisation.specs.Offer.{first_served, profile_of, offered_by, element_of, pair_of}
 use Rattle.initialisation.specs.Known.{elapsed}
-use Rattle.initialisation.specs.Hearing.{configurationInRange, recordsInRange, hearingRefusal, sentFor, vstFor, heardOf}
+use Rattle.initialisation.specs.Hearing.{configuration_in_range, records_in_range, hearing_refusal, sent_for, vst_for, heard_of}
 use Rattle.initialisation.specs.LinkCases.{LinkCasesHold}
 
-pub link-cases-hold : LinkCasesHold
-unfolding heardOf hearingRefusal first_of elementsSound eachSound elementSound noneHas isInside recordsInRange wellFormed in_range written puts through put putFirst putValue is_value fits fieldsFit areBits shape checksOf numbersOf value_at fields_of brings present layout_of announced times content none values_of bstValues vstValues headValues rowsValues entriesValues entryValues entry_rows rows_of idsAt sound rowsPresent rowsFit bstSound entriesSound entrySound configurationInRange sentFor profileOf firstServed stringAt offeredBy pair_of elementOf elapsed vstFor encode encodedOctets size octets number field bits_of fieldBits digits bits releaseOf tickOf changed
-link-cases-hold = record { bsts = refl; changes = refl; numbers = λ n. refl }
+pub link_cases_hold : LinkCasesHold
+unfolding heard_of hearing_refusal first_of elements_sound each_sound element_sound none_has is_inside records_in_range well_formed in_range written puts through put put_first put_value is_value fits fields_fit are_bits shape checks_of numbers_of value_at fields_of brings present layout_of announced times content none values_of bst_values vst_values head_values rows_values entries_values entry_values entry_rows rows_of ids_at sound rows_present rows_fit bst_sound entries_sound entry_sound configuration_in_range sent_for profile_of first_served string_at offered_by pair_of element_of elapsed vst_for encode encoded_octets size octets number field bits_of field_bits digits bits release_of tick_of changed
+link_cases_hold = record { bsts = refl; changes = refl; numbers = λ n. refl }

@@ -15,5 +15,5 @@ module _ {A : Type 0} (d : A) (l : List A) (n : ℕ) (fits : n ≤ length l) whe
       drop-cons (take n l) i d (omega arith) ∙ ap (λ (x : A). x ∷ drop (suc i) (take n l)) (get_or-take n l i d h)
       ∙ ap (λ (j : ℕ). get_or l i d ∷ drop j (take n l)) (sym (add-one i))
 
-  pub rest-none : (i : ℕ) → i ≡ n → drop i (take n l) ≡ []
-  rest-none i e = ap (λ (j : ℕ). drop j (take n l)) (e ∙ sym (length-take-le n l fits)) ∙ drop-length (take n l)
+  pub rest_none : (i : ℕ) → i ≡ n → drop i (take n l) ≡ []
+  rest_none i e = ap (λ (j : ℕ). drop j (take n l)) (e ∙ sym (length-take-le n l fits)) ∙ drop-length (take n l)

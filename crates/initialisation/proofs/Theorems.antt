@@ -3,19 +3,19 @@
 use Rattle.std.proofs.Common.{◌≡◌, ℕ, ◌*◌, ◌≤◌, Bool, true, false, eqb, ltb, List, [], ◌∷◌, ◌++◌, length, take, drop, sym, refl, ap, ◌∙◌, arith, take_at, eqb-true}
 use Rattle.refusals.proofs.Tests.{by_cases}
 use Rattle.bits.specs.Bits.{bits}
-use Rattle.bits.proofs.Laws.{length-octets}
+use Rattle.bits.proofs.Laws.{length_octets}
 use Rattle.apdu_format.specs.Reading.{Value, fields, string}
-use Rattle.apdu_format.specs.Writing.{encode, size, encodedOctets}
+use Rattle.apdu_format.specs.Writing.{encode, size, encoded_octets}
 use Rattle.apdu_format.specs.RoundTrip.{ReadAs}
 use Rattle.apdu.specs.declared.records.Message.TheVariants as kind
-use Rattle.apdu.specs.Values.{bit_of, num, if, headValues, rowsValues, entryValues, entriesValues, rows_of, vstValues, values_of}
-use Rattle.apdu_writing.proofs.RoundTrip.{written-reads}
+use Rattle.apdu.specs.Values.{bit_of, num, if, head_values, rows_values, entry_values, entries_values, rows_of, vst_values, values_of}
+use Rattle.apdu_writing.proofs.RoundTrip.{written_reads}
 use Rattle.initialisation.specs.declared.records.Configuration.{Configuration}
 use Rattle.initialisation.specs.Offer.{Found, nothing, found}
-use Rattle.initialisation.specs.Hearing.{Call, hearingRefusal, Taken, beaconOf, sent, phaseAfter, linkAfter, entry_of, mark_of, vstOf, vstFor, Reply, refused, silent, vst, outputFor, Heard, heardOf}
-use Rattle.initialisation.specs.Theorems.{vstSays, VstSent, Hears}
-use Rattle.initialisation.proofs.VstLaws.{Sendable, no_rows, vst-passes, vst-short}
-use Rattle.initialisation.proofs.HearingLaws.{checked, sendable, taken-parts}
+use Rattle.initialisation.specs.Hearing.{Call, hearing_refusal, Taken, beacon_of, sent, phase_after, link_after, entry_of, mark_of, vst_of, vst_for, Reply, refused, silent, vst, output_for, Heard, heard_of}
+use Rattle.initialisation.specs.Theorems.{vst_says, VstSent, Hears}
+use Rattle.initialisation.proofs.VstLaws.{Sendable, no_rows, vst_passes, vst_short}
+use Rattle.initialisation.proofs.HearingLaws.{checked, sendable, taken_parts}
 
 -- ---- what a VST says
 
@@ -24,9 +24,9 @@ tail true a b c d rest = refl
 tail false a b c d rest = refl
 
 -- the values written are those that a VST says
-values-said : (t : Taken) (marks : List ℕ) (k : Configuration) → vstFor t marks k ≡ vstSays t marks k
-unfolding vstFor vstSays values_of vstValues entriesValues entryValues rowsValues rows_of headValues
-values-said t marks k =
+values_said : (t : Taken) (marks : List ℕ) (k : Configuration) → vst_for t marks k ≡ vst_says t marks k
+unfolding vst_for vst_says values_of vst_values entries_values entry_values rows_values rows_of head_values
+values_said t marks k =
     let e = t.element in
     let q = ltb 0 e.mark_length in
     rw (no_rows e)
@@ -35,85 +35,85 @@ values-said t marks k =
     (tail q (num 2) (fields (0 ∷ [])) (fields (e.mark_length ∷ [])) (string 0 (take (8 * e.mark_length) (drop 0 (bits (mark_of e marks)))))
     (fields (1 ∷ k.class ∷ []) ∷ fields (k.maker ∷ []) ∷ fields (k.status ∷ []) ∷ [])))
 
-octets-long : (vs : List Value) → length (encodedOctets vs) ≡ size vs
-unfolding encodedOctets
-octets-long vs = length-octets (size vs) (encode vs)
+octets_long : (vs : List Value) → length (encoded_octets vs) ≡ size vs
+unfolding encoded_octets
+octets_long vs = length_octets (size vs) (encode vs)
 
 -- what is written reads back
-reads-back : (marks : List ℕ) (t : Taken) (k : Configuration) (out : List ℕ) → Sendable marks t k → 512 ≤ length out → ReadAs (encodedOctets (vstFor t marks k)) (vstFor t marks k)
-unfolding vstFor
-reads-back marks t k out can room =
-    written-reads (mark_of t.element marks) (kind.Vst (vstOf t.profile k)) (entry_of t.element ∷ []) [] out (vst-passes marks t k can [] [] (length out) room)
+reads_back : (marks : List ℕ) (t : Taken) (k : Configuration) (out : List ℕ) → Sendable marks t k → 512 ≤ length out → ReadAs (encoded_octets (vst_for t marks k)) (vst_for t marks k)
+unfolding vst_for
+reads_back marks t k out can room =
+    written_reads (mark_of t.element marks) (kind.Vst (vst_of t.profile k)) (entry_of t.element ∷ []) [] out (vst_passes marks t k can [] [] (length out) room)
 
 -- ---- the three ways of a call
 
 data Way (c : Call) : Type 0 where
-  denied : (k : ℕ) → heardOf c ≡ record { reply = refused k; link = c.link; out = c.out } → Way c
-  quiet : sent c ≡ nothing → heardOf c ≡ record { reply = silent; link = linkAfter c; out = c.out } → Way c
-  started : (t : Taken) → sent c ≡ found t → hearingRefusal c ≡ 0
-      → heardOf c ≡ record { reply = vst (size (vstFor t c.marks c.configuration)); link = linkAfter c; out = outputFor (found t) c.marks c.configuration c.out } → Way c
+  denied : (k : ℕ) → heard_of c ≡ record { reply = refused k; link = c.link; out = c.out } → Way c
+  quiet : sent c ≡ nothing → heard_of c ≡ record { reply = silent; link = link_after c; out = c.out } → Way c
+  started : (t : Taken) → sent c ≡ found t → hearing_refusal c ≡ 0
+      → heard_of c ≡ record { reply = vst (size (vst_for t c.marks c.configuration)); link = link_after c; out = output_for (found t) c.marks c.configuration c.out } → Way c
 
-by-found : {A P : Type 0} (f : Found A) → (f ≡ nothing → P) → ((x : A) → f ≡ found x → P) → P
-by-found nothing g h = g refl
-by-found (found x) g h = h x refl
+by_found : {A P : Type 0} (f : Found A) → (f ≡ nothing → P) → ((x : A) → f ≡ found x → P) → P
+by_found nothing g h = g refl
+by_found (found x) g h = h x refl
 
 way : (c : Call) → Way c
-unfolding heardOf
+unfolding heard_of
 way c =
-    by_cases (eqb (hearingRefusal c) 0)
-    (λ e. by-found (sent c) (λ s. quiet s (rw (e, s))) (λ t s. started t s (eqb-true (hearingRefusal c) 0 e) (rw (e, s))))
-    (λ e. denied (hearingRefusal c) (rw e))
+    by_cases (eqb (hearing_refusal c) 0)
+    (λ e. by_found (sent c) (λ s. quiet s (rw (e, s))) (λ t s. started t s (eqb-true (hearing_refusal c) 0 e) (rw (e, s))))
+    (λ e. denied (hearing_refusal c) (rw e))
 
 -- ---- the theorem
 
 impossible : {P : Type 0} (a b : Reply) {r : Reply} → r ≡ a → r ≡ b → (a ≡ b → ⊥) → P
 impossible a b x y n = absurd (n (sym x ∙ y))
 
-hears-by : (c : Call) → Way c → Hears c
-hears-by c (denied k e) =
-    let r : (heardOf c).reply ≡ refused k = ap (λ (h : Heard). h.reply) e in
+hears_by : (c : Call) → Way c → Hears c
+hears_by c (denied k e) =
+    let r : (heard_of c).reply ≡ refused k = ap (λ (h : Heard). h.reply) e in
     record {
       sent = λ n h. impossible (refused k) (vst n) r h (λ x. let z : ◌≡◌ {A = ℕ} 0 1 = cc in omega arith);
       quiet = λ h. impossible (refused k) silent r h (λ x. let z : ◌≡◌ {A = ℕ} 0 1 = cc in omega arith);
       denied = λ j h. record { output = ap (λ (h : Heard). h.out) e; link = ap (λ (h : Heard). h.link) e };
     }
-hears-by c (quiet s e) =
-    let r : (heardOf c).reply ≡ silent = ap (λ (h : Heard). h.reply) e in
+hears_by c (quiet s e) =
+    let r : (heard_of c).reply ≡ silent = ap (λ (h : Heard). h.reply) e in
     record {
       sent = λ n h. impossible silent (vst n) r h (λ x. let z : ◌≡◌ {A = ℕ} 0 1 = cc in omega arith);
       quiet = λ h.
           record {
             output = ap (λ (h : Heard). h.out) e;
-            phase = ap (λ (h : Heard). h.link.phase) e ∙ ap (λ (f : Found Taken). phaseAfter f c.link.phase (beaconOf c.bst) c.lid) s;
+            phase = ap (λ (h : Heard). h.link.phase) e ∙ ap (λ (f : Found Taken). phase_after f c.link.phase (beacon_of c.bst) c.lid) s;
           };
       denied = λ j h. impossible silent (refused j) r h (λ x. let z : ◌≡◌ {A = ℕ} 0 1 = cc in omega arith);
     }
-hears-by c (started t s none e) =
-    let r : (heardOf c).reply ≡ vst (size (vstFor t c.marks c.configuration)) = ap (λ (h : Heard). h.reply) e in
+hears_by c (started t s none e) =
+    let r : (heard_of c).reply ≡ vst (size (vst_for t c.marks c.configuration)) = ap (λ (h : Heard). h.reply) e in
     record {
       sent = λ n h. went n (sym r ∙ h);
-      quiet = λ h. impossible (vst (size (vstFor t c.marks c.configuration))) silent r h (λ x. let z : ◌≡◌ {A = ℕ} 0 1 = cc in omega arith);
-      denied = λ j h. impossible (vst (size (vstFor t c.marks c.configuration))) (refused j) r h (λ x. let z : ◌≡◌ {A = ℕ} 0 1 = cc in omega arith);
+      quiet = λ h. impossible (vst (size (vst_for t c.marks c.configuration))) silent r h (λ x. let z : ◌≡◌ {A = ℕ} 0 1 = cc in omega arith);
+      denied = λ j h. impossible (vst (size (vst_for t c.marks c.configuration))) (refused j) r h (λ x. let z : ◌≡◌ {A = ℕ} 0 1 = cc in omega arith);
     }
   where
-    went : (n : ℕ) → vst (size (vstFor t c.marks c.configuration)) ≡ vst n → VstSent c n
+    went : (n : ℕ) → vst (size (vst_for t c.marks c.configuration)) ≡ vst n → VstSent c n
     went n h =
-        let vs = vstFor t c.marks c.configuration in
+        let vs = vst_for t c.marks c.configuration in
         let i : size vs ≡ n = cc in
         let can = sendable c t none (sym s) in
-        let p = taken-parts c t (sym s) in
-        let l : length (encodedOctets vs) ≡ n = octets-long vs ∙ i in
+        let p = taken_parts c t (sym s) in
+        let l : length (encoded_octets vs) ≡ n = octets_long vs ∙ i in
         record {
           taken = t;
-          profile-taken = p.profile;
-          pair-taken = p.element;
-          short = rw (← i) (vst-short c.marks t c.configuration can);
+          profile_taken = p.profile;
+          pair_taken = p.element;
+          short = rw (← i) (vst_short c.marks t c.configuration can);
           reads =
-              rw (ap (λ (h : Heard). take n h.out) e ∙ take_at (encodedOctets vs) (drop (size vs) c.out) n l, ← values-said t c.marks c.configuration)
-              (reads-back c.marks t c.configuration c.out can (checked c none).room);
-          fresh = ap (λ (h : Heard). h.link.phase) e ∙ ap (λ (f : Found Taken). phaseAfter f c.link.phase (beaconOf c.bst) c.lid) s;
+              rw (ap (λ (h : Heard). take n h.out) e ∙ take_at (encoded_octets vs) (drop (size vs) c.out) n l, ← values_said t c.marks c.configuration)
+              (reads_back c.marks t c.configuration c.out can (checked c none).room);
+          fresh = ap (λ (h : Heard). h.link.phase) e ∙ ap (λ (f : Found Taken). phase_after f c.link.phase (beacon_of c.bst) c.lid) s;
         }
 
 -- every call is one of the three, by its reply
 pub hears : (c : Call) → Hears c
-hears c = hears-by c (way c)
+hears c = hears_by c (way c)

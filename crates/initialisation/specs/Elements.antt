@@ -1,48 +1,48 @@
 -- The tag's own elements (01, "The tag's link"): how many, with which eids and AIDs, and where their marks lie.
 -- Assumes nothing.
 use Rattle.std.specs.Prelude.{ℕ, ◌*◌, Bool, true, not, ◌&&◌, List, [], ◌∷◌, take, ◌==◌, nat_le}
-use Rattle.bits.specs.Strings.{isInside}
+use Rattle.bits.specs.Strings.{is_inside}
 use Rattle.initialisation.specs.declared.records.Element.{Element}
 use Rattle.initialisation.specs.declared.records.Elements.{Elements}
 
 -- ---- limits
 
-abbrev pub mostElements : ℕ
-mostElements = 8
+abbrev pub most_elements : ℕ
+most_elements = 8
 
-abbrev pub largestEid : ℕ
-largestEid = 127
+abbrev pub largest_eid : ℕ
+largest_eid = 127
 
-abbrev pub largestAid : ℕ
-largestAid = 31
+abbrev pub largest_aid : ℕ
+largest_aid = 31
 
-abbrev pub longestMark : ℕ
-longestMark = 127
+abbrev pub longest_mark : ℕ
+longest_mark = 127
 
 -- ---- soundness
 
 -- eid 1 to 127, AID up to 31, a mark of up to 127 octets inside so many lent ones: octet k of them is bit place 8k
-unfoldable pub elementSound : ℕ → Element → Bool
-elementSound octets e =
+unfoldable pub element_sound : ℕ → Element → Bool
+element_sound octets e =
     nat_le 1 e.eid
-    && (nat_le e.eid largestEid && (nat_le e.aid largestAid && (nat_le e.mark_length longestMark && isInside octets (8 * e.mark) e.mark_length)))
+    && (nat_le e.eid largest_eid && (nat_le e.aid largest_aid && (nat_le e.mark_length longest_mark && is_inside octets (8 * e.mark) e.mark_length)))
 
-unfoldable pub noneHas : ℕ → List Element → Bool
-noneHas eid [] = true
-noneHas eid (e ∷ es) = not (e.eid == eid) && noneHas eid es
+unfoldable pub none_has : ℕ → List Element → Bool
+none_has eid [] = true
+none_has eid (e ∷ es) = not (e.eid == eid) && none_has eid es
 
 -- each is sound, and none behind it has its eid
-unfoldable pub eachSound : ℕ → List Element → Bool
-eachSound octets [] = true
-eachSound octets (e ∷ es) = elementSound octets e && (noneHas e.eid es && eachSound octets es)
+unfoldable pub each_sound : ℕ → List Element → Bool
+each_sound octets [] = true
+each_sound octets (e ∷ es) = element_sound octets e && (none_has e.eid es && each_sound octets es)
 
 -- the elements that count
-abbrev pub ownElements : Elements → List Element
-ownElements own = take own.count own.list
+abbrev pub own_elements : Elements → List Element
+own_elements own = take own.count own.list
 
-unfoldable pub elementsSound : ℕ → Elements → Bool
-elementsSound octets own = nat_le own.count mostElements && eachSound octets (ownElements own)
+unfoldable pub elements_sound : ℕ → Elements → Bool
+elements_sound octets own = nat_le own.count most_elements && each_sound octets (own_elements own)
 
 -- what stands past the end of a list
-abbrev pub noElement : Element
-noElement = record { eid = 0; aid = 0; mark = 0; mark_length = 0 }
+abbrev pub no_element : Element
+no_element = record { eid = 0; aid = 0; mark = 0; mark_length = 0 }

@@ -3,16 +3,16 @@
 -- Assumes nothing.
 use Rattle.std.specs.Prelude.{◌≡◌, ℕ, ◌^◌, Bool, true, not, ◌&&◌, List, [], ◌∷◌, ◌++◌, length, take, drop, ◌==◌, nat_lt}
 use Rattle.refusals.specs.Check.{pick, Check, check, first_of}
-use Rattle.apdu_format.specs.Component.{octetString}
+use Rattle.apdu_format.specs.Component.{octet_string}
 use Rattle.apdu_format.specs.Reading.{Value}
-use Rattle.apdu_format.specs.Writing.{size, encodedOctets}
+use Rattle.apdu_format.specs.Writing.{size, encoded_octets}
 use Rattle.apdu.specs.declared.lists.Entry.{Entry}
 use Rattle.apdu.specs.declared.lists.Lists.{Lists}
 use Rattle.apdu.specs.declared.records.Bst.{Bst}
 use Rattle.apdu.specs.declared.records.Vst.{Vst}
 use Rattle.apdu.specs.declared.records.Message.TheVariants as kind
 use Rattle.apdu.specs.Values.{values_of}
-use Rattle.apdu.specs.Sound.{wellFormed}
+use Rattle.apdu.specs.Sound.{well_formed}
 use Rattle.initialisation.specs.declared.records.Beacon.{Beacon}
 use Rattle.initialisation.specs.declared.records.Phase.{Phase}
 use Rattle.initialisation.specs.declared.records.Phase.TheVariants.{Sleeping, Looking, Ready}
@@ -23,10 +23,10 @@ use Rattle.initialisation.specs.declared.records.Configuration.{Configuration}
 use Rattle.initialisation.specs.declared.records.BstAnswer.{BstAnswer}
 use Rattle.initialisation.specs.declared.records.BstAnswer.TheVariants as answer
 use Rattle.initialisation.specs.declared.records.BstResult.{BstResult}
-use Rattle.initialisation.specs.Link.{lidInRange, linkInRange}
-use Rattle.initialisation.specs.Elements.{ownElements, elementsSound}
-use Rattle.initialisation.specs.Offer.{Found, nothing, found, profileOf, offeredBy, pair_of}
-use Rattle.initialisation.specs.Known.{isKnown}
+use Rattle.initialisation.specs.Link.{lid_in_range, link_in_range}
+use Rattle.initialisation.specs.Elements.{own_elements, elements_sound}
+use Rattle.initialisation.specs.Offer.{Found, nothing, found, profile_of, offered_by, pair_of}
+use Rattle.initialisation.specs.Known.{is_known}
 
 -- what a BST call brings; `lent` are the octets of the BST record's strings, `marks` those of the elements'
 pub record Call : Type 0 where
@@ -48,28 +48,28 @@ call link bst lists lent tick lid own marks k out =
 -- ---- checks
 
 -- the octets that an output must have
-abbrev pub leastOutput : ℕ
-leastOutput = 512
+abbrev pub least_output : ℕ
+least_output = 512
 
 -- class of 15 bits, maker and status of 16
-unfoldable pub configurationInRange : Configuration → Bool
-configurationInRange k = nat_lt k.class (2 ^ 15) && (nat_lt k.maker (2 ^ 16) && nat_lt k.status (2 ^ 16))
+unfoldable pub configuration_in_range : Configuration → Bool
+configuration_in_range k = nat_lt k.class (2 ^ 15) && (nat_lt k.maker (2 ^ 16) && nat_lt k.status (2 ^ 16))
 
 -- any of the three records: link, BST, configuration
-unfoldable pub recordsInRange : Link → Bst → Lists → List ℕ → Configuration → Bool
-recordsInRange link bst lists lent k =
-    linkInRange link && (wellFormed lent (kind.Bst bst) lists.entries lists.rows && configurationInRange k)
+unfoldable pub records_in_range : Link → Bst → Lists → List ℕ → Configuration → Bool
+records_in_range link bst lists lent k =
+    link_in_range link && (well_formed lent (kind.Bst bst) lists.entries lists.rows && configuration_in_range k)
 
-abbrev pub hearingChecks : (octets lid : ℕ) (sound fine : Bool) → List Check
-hearingChecks octets lid sound fine =
-    check 1 (nat_lt octets leastOutput) ∷ check 3 (not (lidInRange lid)) ∷ check 26 (not sound) ∷ check 23 (not fine) ∷ []
+abbrev pub hearing_checks : (octets lid : ℕ) (sound fine : Bool) → List Check
+hearing_checks octets lid sound fine =
+    check 1 (nat_lt octets least_output) ∷ check 3 (not (lid_in_range lid)) ∷ check 26 (not sound) ∷ check 23 (not fine) ∷ []
 
 -- the refusal of a call, or 0
-unfoldable pub hearingRefusal : Call → ℕ
-hearingRefusal c =
+unfoldable pub hearing_refusal : Call → ℕ
+hearing_refusal c =
     first_of
-    (hearingChecks (length c.out) c.lid (elementsSound (length c.marks) c.own)
-    (recordsInRange c.link c.bst c.lists c.lent c.configuration))
+    (hearing_checks (length c.out) c.lid (elements_sound (length c.marks) c.own)
+    (records_in_range c.link c.bst c.lists c.lent c.configuration))
 
 -- ---- what is taken
 
@@ -84,17 +84,17 @@ both nothing e = nothing
 both (found p) nothing = nothing
 both (found p) (found e) = found (record { profile = p; element = e })
 
-abbrev pub beaconOf : Bst → Beacon
-beaconOf bst = record { manufacturer = bst.manufacturer; individual = bst.individual }
+abbrev pub beacon_of : Bst → Beacon
+beacon_of bst = record { manufacturer = bst.manufacturer; individual = bst.individual }
 
 -- what a VST is sent for: what is taken, unless the tag is ready, with the same beacon, and the time difference 0 to 254
-unfoldable pub sentFor : Link → Bst → List Entry → List ℕ → Elements → Found Taken
-sentFor link bst entries lent own =
-    pick (isKnown link.phase link.time (beaconOf bst) bst.time) nothing
-    (both (profileOf lent bst) (pair_of (offeredBy bst entries) (ownElements own)))
+unfoldable pub sent_for : Link → Bst → List Entry → List ℕ → Elements → Found Taken
+sent_for link bst entries lent own =
+    pick (is_known link.phase link.time (beacon_of bst) bst.time) nothing
+    (both (profile_of lent bst) (pair_of (offered_by bst entries) (own_elements own)))
 
 abbrev pub sent : Call → Found Taken
-sent c = sentFor c.link c.bst c.lists.entries c.lent c.own
+sent c = sent_for c.link c.bst c.lists.entries c.lent c.own
 
 -- ---- the link afterwards
 
@@ -105,14 +105,14 @@ woken Looking = Looking
 woken (Ready beacon lid) = Ready beacon lid
 
 -- silent: the phase stays; a VST: ready under the fresh LID
-abbrev pub phaseAfter : Found Taken → Phase → Beacon → (lid : ℕ) → Phase
-phaseAfter nothing phase beacon lid = woken phase
-phaseAfter (found t) phase beacon lid = Ready beacon lid
+abbrev pub phase_after : Found Taken → Phase → Beacon → (lid : ℕ) → Phase
+phase_after nothing phase beacon lid = woken phase
+phase_after (found t) phase beacon lid = Ready beacon lid
 
 -- every BST stores its time and tick
-abbrev pub linkAfter : Call → Link
-linkAfter c =
-    record { time = c.bst.time; tick = c.tick; phase = phaseAfter (sent c) c.link.phase (beaconOf c.bst) c.lid }
+abbrev pub link_after : Call → Link
+link_after c =
+    record { time = c.bst.time; tick = c.tick; phase = phase_after (sent c) c.link.phase (beacon_of c.bst) c.lid }
 
 -- ---- the VST
 
@@ -124,7 +124,7 @@ entry_of e =
       has_parameter = nat_lt 0 e.mark_length;
       aid = e.aid;
       eid = e.eid;
-      kind = octetString;
+      kind = octet_string;
       n = e.mark_length;
       start = 0;
       rows = 0;
@@ -135,11 +135,11 @@ abbrev pub mark_of : Element → List ℕ → List ℕ
 mark_of e marks = take e.mark_length (drop e.mark marks)
 
 -- status present, fill 0
-abbrev pub vstOf : ℕ → Configuration → Vst
-vstOf profile k = record { fill = 0; profile = profile; applications = 1; class = k.class; maker = k.maker; has_status = true; status = k.status }
+abbrev pub vst_of : ℕ → Configuration → Vst
+vst_of profile k = record { fill = 0; profile = profile; applications = 1; class = k.class; maker = k.maker; has_status = true; status = k.status }
 
-unfoldable pub vstFor : Taken → List ℕ → Configuration → List Value
-vstFor t marks k = values_of (mark_of t.element marks) (kind.Vst (vstOf t.profile k)) (entry_of t.element ∷ []) []
+unfoldable pub vst_for : Taken → List ℕ → Configuration → List Value
+vst_for t marks k = values_of (mark_of t.element marks) (kind.Vst (vst_of t.profile k)) (entry_of t.element ∷ []) []
 
 -- ---- the call
 
@@ -149,14 +149,14 @@ pub data Reply : Type 0 where
   silent : Reply
   vst : ℕ → Reply
 
-abbrev pub replyTo : Found Taken → List ℕ → Configuration → Reply
-replyTo nothing marks k = silent
-replyTo (found t) marks k = vst (size (vstFor t marks k))
+abbrev pub reply_to : Found Taken → List ℕ → Configuration → Reply
+reply_to nothing marks k = silent
+reply_to (found t) marks k = vst (size (vst_for t marks k))
 
 -- the VST's octets from the front, and every other octet as it was
-abbrev pub outputFor : Found Taken → List ℕ → Configuration → List ℕ → List ℕ
-outputFor nothing marks k out = out
-outputFor (found t) marks k out = let vs = vstFor t marks k in encodedOctets vs ++ drop (size vs) out
+abbrev pub output_for : Found Taken → List ℕ → Configuration → List ℕ → List ℕ
+output_for nothing marks k out = out
+output_for (found t) marks k out = let vs = vst_for t marks k in encoded_octets vs ++ drop (size vs) out
 
 -- what a call answers, and the link and the output after it
 pub record Heard : Type 0 where
@@ -165,24 +165,24 @@ pub record Heard : Type 0 where
   pub out : List ℕ
 
 -- a refusal changes nothing
-unfoldable pub heardOf : Call → Heard
-heardOf c =
-    pick (hearingRefusal c == 0)
+unfoldable pub heard_of : Call → Heard
+heard_of c =
+    pick (hearing_refusal c == 0)
     (record {
-      reply = replyTo (sent c) c.marks c.configuration;
-      link = linkAfter c;
-      out = outputFor (sent c) c.marks c.configuration c.out;
+      reply = reply_to (sent c) c.marks c.configuration;
+      link = link_after c;
+      out = output_for (sent c) c.marks c.configuration c.out;
     })
-    (record { reply = refused (hearingRefusal c); link = c.link; out = c.out })
+    (record { reply = refused (hearing_refusal c); link = c.link; out = c.out })
 
 -- 01's number and values for each case of the answer
-abbrev pub replyOf : BstAnswer → Reply
-replyOf answer.Silent = silent
-replyOf (answer.Vst n) = vst n
-replyOf (answer.Refused n) = refused n
+abbrev pub reply_of : BstAnswer → Reply
+reply_of answer.Silent = silent
+reply_of (answer.Vst n) = vst n
+reply_of (answer.Refused n) = refused n
 
 -- the contract
 pub record BstGives (c : Call) (r : BstResult) (out : List ℕ) : Type 0 where
-  pub reply-is : replyOf r.answer ≡ (heardOf c).reply
-  pub link-is : r.link ≡ (heardOf c).link
-  pub output-is : out ≡ (heardOf c).out
+  pub reply_is : reply_of r.answer ≡ (heard_of c).reply
+  pub link_is : r.link ≡ (heard_of c).link
+  pub output_is : out ≡ (heard_of c).out

@@ -10,19 +10,19 @@ unfoldable pub elapsed : (time stored : ℕ) → ℤ
 elapsed time stored = pos time -ℤ pos stored
 
 -- the seconds after the stored time up to which a ready tag is silent to its beacon
-abbrev pub longestSilence : ℕ
-longestSilence = 254
+abbrev pub longest_silence : ℕ
+longest_silence = 254
 
 -- 0 to 254 is soon; 255 or more, and every negative difference (H), is not
-abbrev pub isSoon : ℤ → Bool
-isSoon (pos n) = nat_le n longestSilence
-isSoon (negsuc n) = false
+abbrev pub is_soon : ℤ → Bool
+is_soon (pos n) = nat_le n longest_silence
+is_soon (negsuc n) = false
 
-abbrev pub sameBeacon : Beacon → Beacon → Bool
-sameBeacon a b = a.manufacturer == b.manufacturer && a.individual == b.individual
+abbrev pub same_beacon : Beacon → Beacon → Bool
+same_beacon a b = a.manufacturer == b.manufacturer && a.individual == b.individual
 
 -- ready, with the same beacon, and soon after the stored time
-abbrev pub isKnown : Phase → (stored : ℕ) → Beacon → (time : ℕ) → Bool
-isKnown Sleeping stored beacon time = false
-isKnown Looking stored beacon time = false
-isKnown (Ready own lid) stored beacon time = sameBeacon own beacon && isSoon (elapsed time stored)
+abbrev pub is_known : Phase → (stored : ℕ) → Beacon → (time : ℕ) → Bool
+is_known Sleeping stored beacon time = false
+is_known Looking stored beacon time = false
+is_known (Ready own lid) stored beacon time = same_beacon own beacon && is_soon (elapsed time stored)

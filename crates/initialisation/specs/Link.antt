@@ -13,47 +13,47 @@ use Rattle.initialisation.specs.declared.records.LinkResult.{LinkResult}
 -- ---- ranges
 
 -- a LID is below 2^28
-abbrev pub lidInRange : ℕ → Bool
-lidInRange lid = nat_lt lid (2 ^ 28)
+abbrev pub lid_in_range : ℕ → Bool
+lid_in_range lid = nat_lt lid (2 ^ 28)
 
 -- a beacon of 16 and 27 bits, and a LID
-abbrev pub readyInRange : Beacon → ℕ → Bool
-readyInRange beacon lid = nat_lt beacon.manufacturer (2 ^ 16) && (nat_lt beacon.individual (2 ^ 27) && lidInRange lid)
+abbrev pub ready_in_range : Beacon → ℕ → Bool
+ready_in_range beacon lid = nat_lt beacon.manufacturer (2 ^ 16) && (nat_lt beacon.individual (2 ^ 27) && lid_in_range lid)
 
-abbrev pub phaseInRange : Phase → Bool
-phaseInRange Sleeping = true
-phaseInRange Looking = true
-phaseInRange (Ready beacon lid) = readyInRange beacon lid
+abbrev pub phase_in_range : Phase → Bool
+phase_in_range Sleeping = true
+phase_in_range Looking = true
+phase_in_range (Ready beacon lid) = ready_in_range beacon lid
 
 -- time and tick may be any
-abbrev pub linkInRange : Link → Bool
-linkInRange link = phaseInRange link.phase
+abbrev pub link_in_range : Link → Bool
+link_in_range link = phase_in_range link.phase
 
 -- ---- what the calls ask
 
 -- ready under this LID
-abbrev pub isReadyUnder : ℕ → Phase → Bool
-isReadyUnder lid Sleeping = false
-isReadyUnder lid Looking = false
-isReadyUnder lid (Ready beacon own) = own == lid
+abbrev pub is_ready_under : ℕ → Phase → Bool
+is_ready_under lid Sleeping = false
+is_ready_under lid Looking = false
+is_ready_under lid (Ready beacon own) = own == lid
 
 -- the ticks, milliseconds, without a BST after which a tag sleeps
-abbrev pub awakeTicks : ℕ
-awakeTicks = 100
+abbrev pub awake_ticks : ℕ
+awake_ticks = 100
 
 -- the ticks that have passed since the last one, modulo 2^32
-abbrev pub ticksSince : (tick last : ℕ) → ℕ
-ticksSince tick last = (tick + (2 ^ 32 - last)) % 2 ^ 32
+abbrev pub ticks_since : (tick last : ℕ) → ℕ
+ticks_since tick last = (tick + (2 ^ 32 - last)) % 2 ^ 32
 
 -- so many have passed since the tick last awake
-abbrev pub isAsleep : (tick last : ℕ) → Bool
-isAsleep tick last = nat_le awakeTicks (ticksSince tick last)
+abbrev pub is_asleep : (tick last : ℕ) → Bool
+is_asleep tick last = nat_le awake_ticks (ticks_since tick last)
 
 -- ---- the calls
 
 -- the link in another phase
-abbrev pub inPhase : Phase → Link → Link
-inPhase phase link = record { time = link.time; tick = link.tick; phase = phase }
+abbrev pub in_phase : Phase → Link → Link
+in_phase phase link = record { time = link.time; tick = link.tick; phase = phase }
 
 -- what a call answers, and the link after it
 pub record Changed : Type 0 where
@@ -66,15 +66,15 @@ changed checks before after =
     pick (first_of checks == 0) (record { answer = accepted tt; link = after }) (record { answer = refused (first_of checks); link = before })
 
 -- release of our LID makes it looking
-unfoldable pub releaseOf : ℕ → Link → Changed
-releaseOf lid link =
+unfoldable pub release_of : ℕ → Link → Changed
+release_of lid link =
     changed
-    (check 3 (not (lidInRange lid)) ∷ check 23 (not (linkInRange link)) ∷ check 25 (not (isReadyUnder lid link.phase)) ∷ [])
-    link (inPhase Looking link)
+    (check 3 (not (lid_in_range lid)) ∷ check 23 (not (link_in_range link)) ∷ check 25 (not (is_ready_under lid link.phase)) ∷ [])
+    link (in_phase Looking link)
 
 -- a tick call makes it sleeping, if it is asleep by then
-unfoldable pub tickOf : ℕ → Link → Changed
-tickOf tick link = changed (check 23 (not (linkInRange link)) ∷ []) link (pick (isAsleep tick link.tick) (inPhase Sleeping link) link)
+unfoldable pub tick_of : ℕ → Link → Changed
+tick_of tick link = changed (check 23 (not (link_in_range link)) ∷ []) link (pick (is_asleep tick link.tick) (in_phase Sleeping link) link)
 
 -- 01's number for each case of the answer
 abbrev pub answer_of : LinkAnswer → Answer (Unit {0})
@@ -83,9 +83,9 @@ answer_of (Refused number) = refused number
 
 -- the contracts
 pub record ReleaseGives (lid : ℕ) (link : Link) (r : LinkResult) : Type 0 where
-  pub answer-is : answer_of r.answer ≡ (releaseOf lid link).answer
-  pub link-is : r.link ≡ (releaseOf lid link).link
+  pub answer_is : answer_of r.answer ≡ (release_of lid link).answer
+  pub link_is : r.link ≡ (release_of lid link).link
 
 pub record TickGives (tick : ℕ) (link : Link) (r : LinkResult) : Type 0 where
-  pub answer-is : answer_of r.answer ≡ (tickOf tick link).answer
-  pub link-is : r.link ≡ (tickOf tick link).link
+  pub answer_is : answer_of r.answer ≡ (tick_of tick link).answer
+  pub link_is : r.link ≡ (tick_of tick link).link

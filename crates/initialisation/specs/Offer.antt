@@ -2,7 +2,7 @@
 -- Assumes nothing.
 use Rattle.std.specs.Prelude.{ℕ, List, [], ◌∷◌, ◌++◌, take, drop, ◌==◌, nat_le}
 use Rattle.refusals.specs.Check.{pick}
-use Rattle.bits.specs.Strings.{stringAt}
+use Rattle.bits.specs.Strings.{string_at}
 use Rattle.apdu.specs.declared.lists.Entry.{Entry}
 use Rattle.apdu.specs.declared.records.Bst.{Bst}
 use Rattle.initialisation.specs.declared.records.Element.{Element}
@@ -20,31 +20,31 @@ or_else (found x) b = found x
 -- ---- the profile
 
 -- profiles 0 and 1 are served
-abbrev pub largestProfile : ℕ
-largestProfile = 1
+abbrev pub largest_profile : ℕ
+largest_profile = 1
 
 -- the first of a list that is served
-unfoldable pub firstServed : List ℕ → Found ℕ
-firstServed [] = nothing
-firstServed (p ∷ ps) = pick (nat_le p largestProfile) (found p) (firstServed ps)
+unfoldable pub first_served : List ℕ → Found ℕ
+first_served [] = nothing
+first_served (p ∷ ps) = pick (nat_le p largest_profile) (found p) (first_served ps)
 
 -- the BST's profile if it is served, else the first such in its list, which stands in the lent octets s
-unfoldable pub profileOf : List ℕ → Bst → Found ℕ
-profileOf s bst = firstServed (bst.profile ∷ stringAt s bst.profiles bst.profile_count)
+unfoldable pub profile_of : List ℕ → Bst → Found ℕ
+profile_of s bst = first_served (bst.profile ∷ string_at s bst.profiles bst.profile_count)
 
 -- ---- the pair
 
 -- the mandatory applications, then the others if they are there
-unfoldable pub offeredBy : Bst → List Entry → List Entry
-offeredBy bst entries =
+unfoldable pub offered_by : Bst → List Entry → List Entry
+offered_by bst entries =
     take bst.mandatory entries ++ pick bst.has_others (take bst.others (drop bst.mandatory entries)) []
 
 -- of the elements, in order, the first with this AID
-unfoldable pub elementOf : ℕ → List Element → Found Element
-elementOf aid [] = nothing
-elementOf aid (e ∷ es) = pick (e.aid == aid) (found e) (elementOf aid es)
+unfoldable pub element_of : ℕ → List Element → Found Element
+element_of aid [] = nothing
+element_of aid (e ∷ es) = pick (e.aid == aid) (found e) (element_of aid es)
 
 -- going through the offered applications, and for each through the elements, the first pair with equal AID is taken: its element
 unfoldable pub pair_of : List Entry → List Element → Found Element
 pair_of [] es = nothing
-pair_of (o ∷ os) es = or_else (elementOf o.aid es) (pair_of os es)
+pair_of (o ∷ os) es = or_else (element_of o.aid es) (pair_of os es)

@@ -7,14 +7,14 @@ use Rattle.apdu_format.specs.RoundTrip.{ReadAs}
 use Rattle.apdu.specs.Values.{bit_of, num, str, if}
 use Rattle.initialisation.specs.declared.records.Configuration.{Configuration}
 use Rattle.initialisation.specs.declared.records.Phase.TheVariants.{Ready}
-use Rattle.initialisation.specs.Elements.{ownElements}
-use Rattle.initialisation.specs.Offer.{found, profileOf, offeredBy, pair_of}
-use Rattle.initialisation.specs.Hearing.{Call, Taken, beaconOf, woken, mark_of, refused, silent, vst, heardOf}
+use Rattle.initialisation.specs.Elements.{own_elements}
+use Rattle.initialisation.specs.Offer.{found, profile_of, offered_by, pair_of}
+use Rattle.initialisation.specs.Hearing.{Call, Taken, beacon_of, woken, mark_of, refused, silent, vst, heard_of}
 
 -- the values of a VST: choice 9, fill 0, the profile, one application; its entry with an eid, with a parameter unless the mark is empty, AID, eid and mark;
 -- and the configuration with its status
-unfoldable pub vstSays : Taken → List ℕ → Configuration → List Value
-vstSays t marks k =
+unfoldable pub vst_says : Taken → List ℕ → Configuration → List Value
+vst_says t marks k =
     let e = t.element in
     let marked = nat_lt 0 e.mark_length in
     fields (9 ∷ []) ∷ fields (0 ∷ []) ∷ num t.profile ∷ num 1
@@ -24,24 +24,24 @@ vstSays t marks k =
 -- a VST of n octets was sent: they stand at the output's front, and are read as those values of the profile and the pair that the BST call takes
 pub record VstSent (c : Call) (n : ℕ) : Type 0 where
   pub taken : Taken
-  pub profile-taken : profileOf c.lent c.bst ≡ found taken.profile
-  pub pair-taken : pair_of (offeredBy c.bst c.lists.entries) (ownElements c.own) ≡ found taken.element
+  pub profile_taken : profile_of c.lent c.bst ≡ found taken.profile
+  pub pair_taken : pair_of (offered_by c.bst c.lists.entries) (own_elements c.own) ≡ found taken.element
   pub short : n ≤ 512
-  pub reads : ReadAs (take n (heardOf c).out) (vstSays taken c.marks c.configuration)
-  pub fresh : (heardOf c).link.phase ≡ Ready (beaconOf c.bst) c.lid
+  pub reads : ReadAs (take n (heard_of c).out) (vst_says taken c.marks c.configuration)
+  pub fresh : (heard_of c).link.phase ≡ Ready (beacon_of c.bst) c.lid
 
 -- a silent call leaves the output and stays in its phase, awake
 pub record StaysSilent (c : Call) : Type 0 where
-  pub output : (heardOf c).out ≡ c.out
-  pub phase : (heardOf c).link.phase ≡ woken c.link.phase
+  pub output : (heard_of c).out ≡ c.out
+  pub phase : (heard_of c).link.phase ≡ woken c.link.phase
 
 -- a refused call changes nothing
 pub record ChangesNothing (c : Call) : Type 0 where
-  pub output : (heardOf c).out ≡ c.out
-  pub link : (heardOf c).link ≡ c.link
+  pub output : (heard_of c).out ≡ c.out
+  pub link : (heard_of c).link ≡ c.link
 
 -- one of the three, by the reply
 pub record Hears (c : Call) : Type 0 where
-  pub sent : (n : ℕ) → (heardOf c).reply ≡ vst n → VstSent c n
-  pub quiet : (heardOf c).reply ≡ silent → StaysSilent c
-  pub denied : (k : ℕ) → (heardOf c).reply ≡ refused k → ChangesNothing c
+  pub sent : (n : ℕ) → (heard_of c).reply ≡ vst n → VstSent c n
+  pub quiet : (heard_of c).reply ≡ silent → StaysSilent c
+  pub denied : (k : ℕ) → (heard_of c).reply ≡ refused k → ChangesNothing c

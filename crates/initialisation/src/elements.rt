@@ -1,6 +1,6 @@
 // The soundness of the tag's elements.
 ghost use Rattle.std.specs.Prelude.{◌≡◌, ◌+◌, ◌<◌, ◌≤◌, drop};
-ghost use Rattle.initialisation.specs.Elements.{elementSound, noneHas, eachSound, ownElements, elementsSound};
+ghost use Rattle.initialisation.specs.Elements.{element_sound, none_has, each_sound, own_elements, elements_sound};
 
 use crate::records::{Element, Elements};
 
@@ -14,7 +14,7 @@ pub const LONGEST_MARK: u8 = 127;
 
 // Whether an element may stand in a list, with so many octets lent.
 fn element_sound(element: Element, octets: usize) -> bool
-    ensures { result ≡ elementSound octets element }
+    ensures { result ≡ element_sound octets element }
 {
     if element.eid < 1 {
         return false;
@@ -38,7 +38,7 @@ fn element_sound(element: Element, octets: usize) -> bool
 // Whether no element from `from` on has this eid.
 fn none_has(own: Elements, from: usize, eid: u8) -> bool
     requires { (from ≤ own.count) × (own.count ≤ 8) }
-    ensures { result ≡ noneHas eid (drop from (ownElements own)) }
+    ensures { result ≡ none_has eid (drop from (own_elements own)) }
 {
     let n = own.count;
     let mut i = from;
@@ -54,7 +54,7 @@ fn none_has(own: Elements, from: usize, eid: u8) -> bool
 
 fn each_sound(own: Elements, octets: usize) -> bool
     requires { own.count ≤ 8 }
-    ensures { result ≡ eachSound octets (ownElements own) }
+    ensures { result ≡ each_sound octets (own_elements own) }
 {
     let n = own.count;
     let mut i: usize = 0;
@@ -73,7 +73,7 @@ fn each_sound(own: Elements, octets: usize) -> bool
 
 // Whether the elements are sound, with so many octets lent for their marks.
 pub(crate) fn elements_sound(own: Elements, octets: usize) -> bool
-    ensures { result ≡ elementsSound octets own }
+    ensures { result ≡ elements_sound octets own }
 {
     if MOST_ELEMENTS < own.count {
         return false;

@@ -1,12 +1,12 @@
 // The BST call.
 ghost use Rattle.std.specs.Prelude.{◌≡◌, ◌^◌, ◌<◌, ◌≤◌, true, length};
 ghost use Rattle.refusals.specs.Check.{pick, first_of};
-ghost use Rattle.bits.specs.Strings.{isInside};
-ghost use Rattle.initialisation.specs.Elements.{elementSound};
+ghost use Rattle.bits.specs.Strings.{is_inside};
+ghost use Rattle.initialisation.specs.Elements.{element_sound};
 ghost use Rattle.initialisation.specs.Offer.{nothing};
-ghost use Rattle.initialisation.specs.Hearing.{call, configurationInRange, recordsInRange, hearingChecks, both, beaconOf, sentFor, woken, entry_of, vstOf, BstGives};
+ghost use Rattle.initialisation.specs.Hearing.{call, configuration_in_range, records_in_range, hearing_checks, both, beacon_of, sent_for, woken, entry_of, vst_of, BstGives};
 ghost use Rattle.initialisation.specs.Theorems.{Hears};
-ghost use Rattle.initialisation.specs.Searching.{profileIn, pairIn, decisionIn, octetsIn, Sends};
+ghost use Rattle.initialisation.specs.Searching.{profile_in, pair_in, decision_in, octets_in, Sends};
 
 use crate::elements::elements_sound;
 use crate::known::is_known;
@@ -26,7 +26,7 @@ const WORD_BOUND: u64 = 65536;
 // ---- checks
 
 fn configuration_in_range(configuration: Configuration) -> bool
-    ensures { result ≡ configurationInRange configuration }
+    ensures { result ≡ configuration_in_range configuration }
 {
     if CLASS_BOUND <= configuration.class {
         return false;
@@ -44,7 +44,7 @@ fn records_in_range(
     lent: &[u8],
     configuration: Configuration,
 ) -> bool
-    ensures { result ≡ recordsInRange link bst lists lent.now configuration }
+    ensures { result ≡ records_in_range link bst lists lent.now configuration }
 {
     if !link_in_range(link) {
         return false;
@@ -59,7 +59,7 @@ fn records_in_range(
 
 // The number of the first check to hold, or 0.
 fn refusal(octets: usize, lid: u32, sound: bool, fine: bool) -> u8
-    ensures { result ≡ first_of (hearingChecks octets lid sound fine) }
+    ensures { result ≡ first_of (hearing_checks octets lid sound fine) }
 {
     if octets < LEAST_OUTPUT {
         return refusals::STORE_OR_OUTPUT_LENGTH;
@@ -86,7 +86,7 @@ pub enum Decision {
 }
 
 fn beacon_of(bst: Bst) -> Beacon
-    ensures { result ≡ beaconOf bst }
+    ensures { result ≡ beacon_of bst }
 {
     Beacon {
         manufacturer: bst.manufacturer,
@@ -95,7 +95,7 @@ fn beacon_of(bst: Bst) -> Beacon
 }
 
 fn decide(profile: Profile, pair: Pair, known: bool) -> Decision
-    ensures { decisionIn result ≡ pick known nothing (both (profileIn profile) (pairIn pair)) }
+    ensures { decision_in result ≡ pick known nothing (both (profile_in profile) (pair_in pair)) }
 {
     if known {
         return Decision::Stay;
@@ -113,8 +113,8 @@ fn decide(profile: Profile, pair: Pair, known: bool) -> Decision
 }
 
 fn choose(link: Link, bst: Bst, entries: [Entry; 32], lent: &[u8], own: Elements) -> Decision
-    requires { (own.count ≤ 8) × (isInside (length lent.now) bst.profiles bst.profile_count ≡ true) × (bst.time < 2 ^ 32) }
-    ensures { decisionIn result ≡ sentFor link bst entries lent.now own }
+    requires { (own.count ≤ 8) × (is_inside (length lent.now) bst.profiles bst.profile_count ≡ true) × (bst.time < 2 ^ 32) }
+    ensures { decision_in result ≡ sent_for link bst entries lent.now own }
 {
     let phase = link.phase;
     let known = is_known(phase, link.time, beacon_of(bst), bst.time as u32);
@@ -186,7 +186,7 @@ fn entry_of(element: Element) -> Entry
 }
 
 fn vst_of(profile: u64, configuration: Configuration) -> Vst
-    ensures { result ≡ vstOf profile configuration }
+    ensures { result ≡ vst_of profile configuration }
 {
     Vst {
         fill: 0,
@@ -201,7 +201,7 @@ fn vst_of(profile: u64, configuration: Configuration) -> Vst
 
 // How many octets were written.
 fn octets_of(written: ApduWritten) -> usize
-    ensures { result ≡ octetsIn written }
+    ensures { result ≡ octets_in written }
 {
     match written {
         ApduWritten::RecordOutOfRange => 0,
@@ -219,7 +219,7 @@ fn send(
     marks: &[u8],
     out: &mut [u8],
 ) -> usize
-    requires { (profile ≤ 1) × (elementSound (length marks.now) element ≡ true) × (configurationInRange configuration ≡ true) × (512 ≤ length out.old) }
+    requires { (profile ≤ 1) × (element_sound (length marks.now) element ≡ true) × (configuration_in_range configuration ≡ true) × (512 ≤ length out.old) }
     ensures { Sends profile element configuration marks.now result out.old out.new }
 {
     let mut entries = apdu::no_entries();

@@ -1,6 +1,6 @@
 // Whether a ready tag has answered a beacon already, not long ago.
 ghost use Rattle.std.specs.Prelude.{◌≡◌};
-ghost use Rattle.initialisation.specs.Known.{elapsed, isSoon, sameBeacon, isKnown};
+ghost use Rattle.initialisation.specs.Known.{elapsed, is_soon, same_beacon, is_known};
 
 use crate::records::{Beacon, Phase};
 
@@ -9,7 +9,7 @@ const LONGEST_SILENCE: i64 = 254;
 
 // Whether a time comes soon after the stored one, by their difference with its sign.
 fn is_soon(time: u32, stored: u32) -> bool
-    ensures { result ≡ isSoon (elapsed time stored) }
+    ensures { result ≡ is_soon (elapsed time stored) }
 {
     let elapsed = (time as i64) - (stored as i64);
     match elapsed {
@@ -19,7 +19,7 @@ fn is_soon(time: u32, stored: u32) -> bool
 }
 
 fn same_beacon(a: Beacon, b: Beacon) -> bool
-    ensures { result ≡ sameBeacon a b }
+    ensures { result ≡ same_beacon a b }
 {
     if a.manufacturer != b.manufacturer {
         return false;
@@ -29,7 +29,7 @@ fn same_beacon(a: Beacon, b: Beacon) -> bool
 
 // Whether the tag is ready under this beacon, and the BST's time comes soon after the stored one.
 pub(crate) fn is_known(phase: Phase, stored: u32, beacon: Beacon, time: u32) -> bool
-    ensures { result ≡ isKnown phase stored beacon time }
+    ensures { result ≡ is_known phase stored beacon time }
 {
     match phase {
         Phase::Sleeping => false,

@@ -1,10 +1,10 @@
 // What a BST offers that the tag takes: a profile, and the first pair of an offered application and an element of its own.
 ghost use Rattle.std.specs.Prelude.{◌≡◌, ◌+◌, ◌*◌, ◌≤◌, true, length, take};
 ghost use Rattle.bits.specs.Bits.{field};
-ghost use Rattle.bits.specs.Strings.{isInside};
-ghost use Rattle.initialisation.specs.Elements.{ownElements};
-ghost use Rattle.initialisation.specs.Offer.{offeredBy, pair_of, profileOf};
-ghost use Rattle.initialisation.specs.Searching.{pair_at, pairIn, profileIn, Counts};
+ghost use Rattle.bits.specs.Strings.{is_inside};
+ghost use Rattle.initialisation.specs.Elements.{own_elements};
+ghost use Rattle.initialisation.specs.Offer.{offered_by, pair_of, profile_of};
+ghost use Rattle.initialisation.specs.Searching.{pair_at, pair_in, profile_in, Counts};
 
 use crate::records::{Element, Elements};
 use apdu::{Bst, Entry};
@@ -39,8 +39,8 @@ fn listed(lent: &[u8], start: usize, i: usize) -> u64
 
 // The BST's profile if it is served, else the first such in its list.
 pub(crate) fn take_profile(bst: Bst, lent: &[u8]) -> Profile
-    requires { isInside (length lent.now) bst.profiles bst.profile_count ≡ true }
-    ensures { profileIn result ≡ profileOf lent.now bst }
+    requires { is_inside (length lent.now) bst.profiles bst.profile_count ≡ true }
+    ensures { profile_in result ≡ profile_of lent.now bst }
 {
     let own = bst.profile;
     if own <= LARGEST_PROFILE {
@@ -81,7 +81,7 @@ fn offered(bst: Bst) -> usize
 // The place in the list of the element that is taken; the list's count if there is no pair.
 fn first_pair(entries: [Entry; 32], offered: usize, own: Elements) -> usize
     requires { (offered ≤ 32) × (own.count ≤ 8) }
-    ensures { (pair_at result (ownElements own) ≡ pair_of (take offered entries) (ownElements own)) × (result ≤ own.count) }
+    ensures { (pair_at result (own_elements own) ≡ pair_of (take offered entries) (own_elements own)) × (result ≤ own.count) }
 {
     let n = own.count;
     let mut taken = n;
@@ -105,7 +105,7 @@ fn first_pair(entries: [Entry; 32], offered: usize, own: Elements) -> usize
 // The element of the first pair with equal AID.
 pub(crate) fn take_pair(bst: Bst, entries: [Entry; 32], own: Elements) -> Pair
     requires { own.count ≤ 8 }
-    ensures { pairIn result ≡ pair_of (offeredBy bst entries) (ownElements own) }
+    ensures { pair_in result ≡ pair_of (offered_by bst entries) (own_elements own) }
 {
     let i = first_pair(entries, offered(bst), own);
     let n = own.count;

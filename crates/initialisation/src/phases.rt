@@ -1,6 +1,6 @@
 // Release and tick calls: they change the phase only.
 ghost use Rattle.std.specs.Prelude.{◌≡◌};
-ghost use Rattle.initialisation.specs.Link.{lidInRange, readyInRange, phaseInRange, linkInRange, isReadyUnder, ticksSince, isAsleep, inPhase, ReleaseGives, TickGives};
+ghost use Rattle.initialisation.specs.Link.{lid_in_range, ready_in_range, phase_in_range, link_in_range, is_ready_under, ticks_since, is_asleep, in_phase, ReleaseGives, TickGives};
 
 use crate::records::{Beacon, Link, LinkAnswer, LinkResult, Phase};
 
@@ -14,13 +14,13 @@ pub const INDIVIDUAL_BOUND: u64 = 134217728;
 pub const AWAKE_TICKS: u32 = 100;
 
 pub(crate) fn lid_in_range(lid: u32) -> bool
-    ensures { result ≡ lidInRange lid }
+    ensures { result ≡ lid_in_range lid }
 {
     lid < LID_BOUND
 }
 
 fn ready_in_range(beacon: Beacon, lid: u32) -> bool
-    ensures { result ≡ readyInRange beacon lid }
+    ensures { result ≡ ready_in_range beacon lid }
 {
     if MANUFACTURER_BOUND <= beacon.manufacturer {
         return false;
@@ -32,7 +32,7 @@ fn ready_in_range(beacon: Beacon, lid: u32) -> bool
 }
 
 fn phase_in_range(phase: Phase) -> bool
-    ensures { result ≡ phaseInRange phase }
+    ensures { result ≡ phase_in_range phase }
 {
     match phase {
         Phase::Sleeping => true,
@@ -42,14 +42,14 @@ fn phase_in_range(phase: Phase) -> bool
 }
 
 pub(crate) fn link_in_range(link: Link) -> bool
-    ensures { result ≡ linkInRange link }
+    ensures { result ≡ link_in_range link }
 {
     let phase = link.phase;
     phase_in_range(phase)
 }
 
 fn is_ready_under(phase: Phase, lid: u32) -> bool
-    ensures { result ≡ isReadyUnder lid phase }
+    ensures { result ≡ is_ready_under lid phase }
 {
     match phase {
         Phase::Sleeping => false,
@@ -63,20 +63,20 @@ fn is_ready_under(phase: Phase, lid: u32) -> bool
 
 // The ticks since the last one, modulo 2^32.
 fn ticks_since(tick: u32, last: u32) -> u32
-    ensures { result ≡ ticksSince tick last }
+    ensures { result ≡ ticks_since tick last }
 {
     std::num::wrapping_sub_u32(tick, last)
 }
 
 // Whether a tag that was last awake at one tick sleeps at another.
 fn is_asleep(tick: u32, last: u32) -> bool
-    ensures { result ≡ isAsleep tick last }
+    ensures { result ≡ is_asleep tick last }
 {
     AWAKE_TICKS <= ticks_since(tick, last)
 }
 
 fn in_phase(phase: Phase, link: Link) -> Link
-    ensures { result ≡ inPhase phase link }
+    ensures { result ≡ in_phase phase link }
 {
     Link {
         time: link.time,

@@ -9,27 +9,27 @@ use lib.Seq.{paste, take-paste, drop-paste, take_all, take-length, drop-drop, le
 use Rattle.refusals.specs.Check.{pick}
 use Rattle.slots.specs.declared.Slot.{Slot}
 use Rattle.slots.specs.declared.Table.{Table}
-use Rattle.slots.specs.Slots.{free, isBusy, index_of, lowestFree}
+use Rattle.slots.specs.Slots.{free, is_busy, index_of, lowest_free}
 use Rattle.reassembly.specs.declared.Arrival.{Arrival}
 use Rattle.reassembly.specs.declared.Change.{Change}
 use Rattle.reassembly.specs.declared.FragmentAnswer.TheVariants.{Held, Whole}
-use Rattle.reassembly.specs.Engine.{put_at, part_at, slotFor, changeTaken, fragmentTaken}
+use Rattle.reassembly.specs.Engine.{put_at, part_at, slot_for, change_taken, fragment_taken}
 use Rattle.reassembly.specs.Accept.{DeliverAsks, DeliverGives, KeepAsks, KeepGives, AcceptAsks, Found, AcceptGives}
 
 -- ---- copies
 
 -- a copy of a part of the store
-pub part-pasted : (output store : List ℕ) (at held : ℕ) → at + held ≤ length store
+pub part_pasted : (output store : List ℕ) (at held : ℕ) → at + held ≤ length store
     → paste output 0 (take (at + held - at) (drop at store)) (length (take (at + held - at) (drop at store))) ≡ paste output 0 (take held (drop at store)) held
-part-pasted output store at held h =
+part_pasted output store at held h =
     let e : at + held - at ≡ held = omega arith in
     let n : length (take held (drop at store)) ≡ held = length-take-le held (drop at store) (omega (arith, length-drop at store)) in
     rw e (ap (λ (k : ℕ). paste output 0 (take held (drop at store)) k) n)
 
 -- a copy behind a copy at the front
-pub two-pastes : (output a x : List ℕ) (n : ℕ) → length a ≡ n → n + length x ≤ length output
+pub two_pastes : (output a x : List ℕ) (n : ℕ) → length a ≡ n → n + length x ≤ length output
     → paste (paste output 0 a n) n x (length x) ≡ put_at output 0 (a ++ x)
-two-pastes output a x n la le =
+two_pastes output a x n la le =
     let d = paste output 0 a n in
     let m = length x in
     let z : 0 + n ≡ n = omega arith in
@@ -50,56 +50,56 @@ less true n = omega arith
 less false n = omega arith
 
 module _ {a : Arrival} {slot : Slot} {lowest : ℕ} {payload store output : List ℕ} (asks : AcceptAsks a slot lowest payload store output) where
-  pub deliver-asks : {before : ℕ} → before ≡ pick a.begins 0 slot.held → DeliverAsks a.index before payload store output
-  deliver-asks e = record {
+  pub deliver_asks : {before : ℕ} → before ≡ pick a.begins 0 slot.held → DeliverAsks a.index before payload store output
+  deliver_asks e = record {
     part_in = omega (arith, less a.begins slot.held);
     long = asks.long;
     fits = omega arith;
     room = asks.room;
   }
 
-  pub keep-asks : {before taken : ℕ} → before ≡ pick a.begins 0 slot.held → a.last ≡ false → taken ≡ pick (isBusy slot) a.index lowest
+  pub keep_asks : {before taken : ℕ} → before ≡ pick a.begins 0 slot.held → a.last ≡ false → taken ≡ pick (is_busy slot) a.index lowest
       → KeepAsks taken before payload store
-  keep-asks b l e = record { slot-in = omega (arith, asks.slot-in l); long = asks.long; fits = omega arith }
+  keep_asks b l e = record { slot_within = omega (arith, asks.slot_within l); long = asks.long; fits = omega arith }
 
 -- ---- what they give
 
 -- what the code finds, of a table that has the pair's slot there
 module _ {a : Arrival} {slot : Slot} {lowest : ℕ} {t : Table} (f : Found a slot lowest t) where
-  before-is : {before : ℕ} → before ≡ pick a.begins 0 slot.held → before ≡ pick a.begins 0 (slotFor a.lid a.number t).held
-  before-is b = b ∙ ap (λ (s : Slot). pick a.begins 0 s.held) f.slot_is
+  before_is : {before : ℕ} → before ≡ pick a.begins 0 slot.held → before ≡ pick a.begins 0 (slot_for a.lid a.number t).held
+  before_is b = b ∙ ap (λ (s : Slot). pick a.begins 0 s.held) f.slot_is
 
-  dropped-is : {dropped : ℕ} → dropped ≡ pick a.begins slot.held 0 → dropped ≡ pick a.begins (slotFor a.lid a.number t).held 0
-  dropped-is d = d ∙ ap (λ (s : Slot). pick a.begins s.held 0) f.slot_is
+  dropped_is : {dropped : ℕ} → dropped ≡ pick a.begins slot.held 0 → dropped ≡ pick a.begins (slot_for a.lid a.number t).held 0
+  dropped_is d = d ∙ ap (λ (s : Slot). pick a.begins s.held 0) f.slot_is
 
-  taken_is : {taken : ℕ} → taken ≡ pick (isBusy slot) a.index lowest
-      → taken ≡ pick (isBusy (slotFor a.lid a.number t)) (index_of a.lid a.number t.slots) (lowestFree t)
-  taken_is e = e ∙ λ k. pick (isBusy (f.slot_is k)) (f.index_is k) (f.lowest-is k)
+  taken_is : {taken : ℕ} → taken ≡ pick (is_busy slot) a.index lowest
+      → taken ≡ pick (is_busy (slot_for a.lid a.number t)) (index_of a.lid a.number t.slots) (lowest_free t)
+  taken_is e = e ∙ λ k. pick (is_busy (f.slot_is k)) (f.index_is k) (f.lowest_is k)
 
 module _ {a : Arrival} {slot : Slot} {lowest before dropped : ℕ} {payload store output : List ℕ} {r : Change}
     (b : before ≡ pick a.begins 0 slot.held) (d : dropped ≡ pick a.begins slot.held 0) where
-  pub deliver-gives : {output' : List ℕ} → a.last ≡ true → DeliverGives a.index before dropped payload store output r output'
+  pub deliver_gives : {output' : List ℕ} → a.last ≡ true → DeliverGives a.index before dropped payload store output r output'
       → AcceptGives a slot lowest payload store output r store output'
-  unfolding changeTaken fragmentTaken
-  deliver-gives l h = record {
-    change-is = λ t f. h.change-is
-        ∙ rw l (λ k. record { answer = Whole (before-is f b k + length payload) (dropped-is f d k); slot = free; index = f.index_is k });
+  unfolding change_taken fragment_taken
+  deliver_gives l h = record {
+    change_is = λ t f. h.change_is
+        ∙ rw l (λ k. record { answer = Whole (before_is f b k + length payload) (dropped_is f d k); slot = free; index = f.index_is k });
     store_is = λ t f. rw l refl;
-    output-is = λ t f. h.output-is
-        ∙ rw l (λ k. put_at output 0 (take (before-is f b k) (drop (part_at (f.index_is k)) store) ++ payload));
+    output_is = λ t f. h.output_is
+        ∙ rw l (λ k. put_at output 0 (take (before_is f b k) (drop (part_at (f.index_is k)) store) ++ payload));
   }
 
-  pub keep-gives : {taken next tick : ℕ} {store' : List ℕ} → a.last ≡ false → taken ≡ pick (isBusy slot) a.index lowest
+  pub keep_gives : {taken next tick : ℕ} {store' : List ℕ} → a.last ≡ false → taken ≡ pick (is_busy slot) a.index lowest
       → next ≡ pick a.begins 1 (slot.next + 1) → tick ≡ pick a.begins a.tick slot.tick
       → KeepGives taken (record { lid = a.lid; number = a.number; next = next; held = before + length payload; tick = tick }) before dropped payload store r store'
       → AcceptGives a slot lowest payload store output r store' output
-  unfolding changeTaken fragmentTaken
-  keep-gives l e n c h = record {
-    change-is = λ t f.
+  unfolding change_taken fragment_taken
+  keep_gives l e n c h = record {
+    change_is = λ t f.
         let n' = n ∙ ap (λ (s : Slot). pick a.begins 1 (s.next + 1)) f.slot_is in
         let c' = c ∙ ap (λ (s : Slot). pick a.begins a.tick s.tick) f.slot_is in
-        let slot' : ◌≡◌ {A = Slot} _ _ = λ k. record { lid = a.lid; number = a.number; next = n' k; held = before-is f b k + length payload; tick = c' k } in
-        h.change-is ∙ rw l (λ k. record { answer = Held (before-is f b k + length payload) (dropped-is f d k); slot = slot' k; index = taken_is f e k });
-    store_is = λ t f. h.store_is ∙ rw l (λ k. put_at store (part_at (taken_is f e k) + before-is f b k) payload);
-    output-is = λ t f. rw l refl;
+        let slot' : ◌≡◌ {A = Slot} _ _ = λ k. record { lid = a.lid; number = a.number; next = n' k; held = before_is f b k + length payload; tick = c' k } in
+        h.change_is ∙ rw l (λ k. record { answer = Held (before_is f b k + length payload) (dropped_is f d k); slot = slot' k; index = taken_is f e k });
+    store_is = λ t f. h.store_is ∙ rw l (λ k. put_at store (part_at (taken_is f e k) + before_is f b k) payload);
+    output_is = λ t f. rw l refl;
   }

@@ -3,13 +3,13 @@
 use mathlib.Core.Path.{refl}
 use Rattle.refusals.specs.Check.{first_of}
 use Rattle.bits.specs.Bits.{digits, bits, number, field}
-use Rattle.header.specs.Header.{endBit, headerLength, counterIn, lengthFor, headerOf, readRefusal}
+use Rattle.header.specs.Header.{end_bit, header_length, counter_in, length_for, header_of, read_refusal}
 use Rattle.slots.specs.Slots.{total}
-use Rattle.reassembly.specs.Checks.{payloadOf, fragmentIn}
-use Rattle.reassembly.specs.Ledger.{joined, those, facts_of, ledgerRefusal, joining, ledgerStep, ledgerReports}
-use Rattle.reassembly.specs.History.{heldAfter}
+use Rattle.reassembly.specs.Checks.{payload_of, fragment_in}
+use Rattle.reassembly.specs.Ledger.{joined, those, facts_of, ledger_refusal, joining, ledger_step, ledger_reports}
+use Rattle.reassembly.specs.History.{held_after}
 use Rattle.reassembly.specs.LedgerCases.{LedgerCasesHold}
 
-pub ledger-cases-hold : LedgerCasesHold
-unfolding first_of digits bits number field endBit headerLength counterIn lengthFor headerOf readRefusal total payloadOf fragmentIn joined those facts_of ledgerRefusal joining ledgerStep ledgerReports heldAfter
-ledger-cases-hold = record { reports = refl; open-ones = refl; balance = refl }
+pub ledger_cases_hold : LedgerCasesHold
+unfolding first_of digits bits number field end_bit header_length counter_in length_for header_of read_refusal total payload_of fragment_in joined those facts_of ledger_refusal joining ledger_step ledger_reports held_after
+ledger_cases_hold = record { reports = refl; open_ones = refl; balance = refl }

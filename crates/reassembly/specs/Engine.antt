@@ -5,13 +5,13 @@ use Rattle.std.proofs.Math.Seq.{paste}
 use Rattle.refusals.specs.Check.{pick, first_of, Answer, refused, accepted}
 use Rattle.slots.specs.declared.Slot.{Slot}
 use Rattle.slots.specs.declared.Table.{Table}
-use Rattle.slots.specs.Slots.{slotCount, slotOctets, free, isBusy, index_of, isFull, lowestFree, table_of, isSound}
+use Rattle.slots.specs.Slots.{slot_count, slot_octets, free, is_busy, index_of, is_full, lowest_free, table_of, is_sound}
 use Rattle.reassembly.specs.declared.Facts.{Facts}
 use Rattle.reassembly.specs.declared.FragmentAnswer.{FragmentAnswer}
 use Rattle.reassembly.specs.declared.FragmentAnswer.TheVariants.{Held, Whole, Refused}
 use Rattle.reassembly.specs.declared.FragmentResult.{FragmentResult}
 use Rattle.reassembly.specs.declared.Change.{Change}
-use Rattle.reassembly.specs.Checks.{fragmentIn, payloadOf, fragmentChecks}
+use Rattle.reassembly.specs.Checks.{fragment_in, payload_of, fragment_checks}
 
 -- what an accepted fragment call answers: the message is held or whole, with its octets; and the octets dropped
 pub data Taken : Type 0 where
@@ -30,33 +30,33 @@ abbrev pub put_at : (octets : List ℕ) → (at : ℕ) → (part : List ℕ) →
 put_at octets at part = paste octets at part (length part)
 
 -- the pair's slot, or a free one
-abbrev pub slotFor : ℕ → ℕ → Table → Slot
-slotFor lid number table = get_or table.slots (index_of lid number table.slots) free
+abbrev pub slot_for : ℕ → ℕ → Table → Slot
+slot_for lid number table = get_or table.slots (index_of lid number table.slots) free
 
 -- the facts of a pair, as its slot and the table tell them
-abbrev pub factsFrom : Slot → Table → Facts
-factsFrom slot table = record { is_open = isBusy slot; expected = slot.next; held = slot.held; full = isFull table }
+abbrev pub facts_from : Slot → Table → Facts
+facts_from slot table = record { is_open = is_busy slot; expected = slot.next; held = slot.held; full = is_full table }
 
-unfoldable pub factsIn : ℕ → ℕ → Table → Facts
-factsIn lid number table = factsFrom (slotFor lid number table) table
+unfoldable pub facts_in : ℕ → ℕ → Table → Facts
+facts_in lid number table = facts_from (slot_for lid number table) table
 
 -- the place of a slot's part in the store
 abbrev pub part_at : ℕ → ℕ
-part_at index = slotOctets * index
+part_at index = slot_octets * index
 
 -- 01's number and values for each case of the answer
-abbrev pub fragmentAnswer : FragmentAnswer → Answer Taken
-fragmentAnswer (Held octets dropped) = accepted (held octets dropped)
-fragmentAnswer (Whole octets dropped) = accepted (whole octets dropped)
-fragmentAnswer (Refused number) = refused number
+abbrev pub fragment_answer : FragmentAnswer → Answer Taken
+fragment_answer (Held octets dropped) = accepted (held octets dropped)
+fragment_answer (Whole octets dropped) = accepted (whole octets dropped)
+fragment_answer (Refused number) = refused number
 
 -- What a fragment that no check refuses is answered, and the one slot that it changes. One that begins (counter 0) drops the octets that its pair held.
 -- With the last mark the message is whole, and the pair's slot is freed: a pair that has none has an index past the eight.
 -- Otherwise it is held, in the pair's slot or else the lowest free one.
-unfoldable pub changeTaken : (last begins : Bool) → (lid number tick octets : ℕ) → Table → Change
-changeTaken last begins lid number tick octets table =
+unfoldable pub change_taken : (last begins : Bool) → (lid number tick octets : ℕ) → Table → Change
+change_taken last begins lid number tick octets table =
     let index = index_of lid number table.slots in
-    let slot = slotFor lid number table in
+    let slot = slot_for lid number table in
     let message = pick begins 0 slot.held + octets in
     let dropped = pick begins slot.held 0 in
     pick last
@@ -64,64 +64,64 @@ changeTaken last begins lid number tick octets table =
     (record {
       answer = Held message dropped;
       slot = record { lid = lid; number = number; next = pick begins 1 (slot.next + 1); held = message; tick = pick begins tick slot.tick };
-      index = pick (isBusy slot) index (lowestFree table);
+      index = pick (is_busy slot) index (lowest_free table);
     })
 
 -- That change, and the octets: with the last mark what is held and the payload go to the front of the output; otherwise the payload goes to the
 -- store behind what is held, in the part of the slot that changes.
-unfoldable pub fragmentTaken : (last begins : Bool) → (lid number tick : ℕ) → (payload : List ℕ) → Table → (store output : List ℕ) → Outcome
-fragmentTaken last begins lid number tick payload table store output =
-    let change = changeTaken last begins lid number tick (length payload) table in
-    let before = pick begins 0 (slotFor lid number table).held in
+unfoldable pub fragment_taken : (last begins : Bool) → (lid number tick : ℕ) → (payload : List ℕ) → Table → (store output : List ℕ) → Outcome
+fragment_taken last begins lid number tick payload table store output =
+    let change = change_taken last begins lid number tick (length payload) table in
+    let before = pick begins 0 (slot_for lid number table).held in
     record {
-      answer = fragmentAnswer change.answer;
+      answer = fragment_answer change.answer;
       table = table_of (set table.slots change.index change.slot);
       store = pick last store (put_at store (part_at change.index + before) payload);
       output = pick last (put_at output 0 (take before (drop (part_at change.index) store) ++ payload)) output;
     }
 
 -- the number of the first check to hold, or 0
-unfoldable pub fragmentRefusal : (lid : ℕ) → (lsdu : List ℕ) → Table → (store output : ℕ) → ℕ
-fragmentRefusal lid lsdu table store output =
-    let fragment = fragmentIn lsdu in
-    first_of (fragmentChecks store output (not (isSound table)) lid (length lsdu) fragment (factsIn lid fragment.number table))
+unfoldable pub fragment_refusal : (lid : ℕ) → (lsdu : List ℕ) → Table → (store output : ℕ) → ℕ
+fragment_refusal lid lsdu table store output =
+    let fragment = fragment_in lsdu in
+    first_of (fragment_checks store output (not (is_sound table)) lid (length lsdu) fragment (facts_in lid fragment.number table))
 
 -- a fragment call; a refusal changes nothing
-unfoldable pub fragmentOf : (lid tick : ℕ) → (lsdu : List ℕ) → Table → (store output : List ℕ) → Outcome
-fragmentOf lid tick lsdu table store output =
-    let fragment = fragmentIn lsdu in
-    let number = fragmentRefusal lid lsdu table (length store) (length output) in
+unfoldable pub fragment_of : (lid tick : ℕ) → (lsdu : List ℕ) → Table → (store output : List ℕ) → Outcome
+fragment_of lid tick lsdu table store output =
+    let fragment = fragment_in lsdu in
+    let number = fragment_refusal lid lsdu table (length store) (length output) in
     pick (eqb number 0)
-    (fragmentTaken fragment.last (eqb fragment.counter 0) lid fragment.number tick (payloadOf lsdu) table store output)
+    (fragment_taken fragment.last (eqb fragment.counter 0) lid fragment.number tick (payload_of lsdu) table store output)
     (record { answer = refused number; table = table; store = store; output = output })
 
 -- the call's answer and the slot that it changes; a refusal changes none: the slot that is told is free, and its index past the eight
-unfoldable pub changeOf : (lid tick : ℕ) → (lsdu : List ℕ) → Table → (store output : ℕ) → Change
-changeOf lid tick lsdu table store output =
-    let fragment = fragmentIn lsdu in
-    let number = fragmentRefusal lid lsdu table store output in
+unfoldable pub change_of : (lid tick : ℕ) → (lsdu : List ℕ) → Table → (store output : ℕ) → Change
+change_of lid tick lsdu table store output =
+    let fragment = fragment_in lsdu in
+    let number = fragment_refusal lid lsdu table store output in
     pick (eqb number 0)
-    (changeTaken fragment.last (eqb fragment.counter 0) lid fragment.number tick (length (payloadOf lsdu)) table)
-    (record { answer = Refused number; slot = free; index = slotCount })
+    (change_taken fragment.last (eqb fragment.counter 0) lid fragment.number tick (length (payload_of lsdu)) table)
+    (record { answer = Refused number; slot = free; index = slot_count })
 
 -- the table that a change makes: its slot is set, unless the answer is a refusal
-unfoldable pub changedFor : FragmentAnswer → (before after : Table) → Table
-changedFor (Held octets dropped) before after = after
-changedFor (Whole octets dropped) before after = after
-changedFor (Refused number) before after = before
+unfoldable pub changed_for : FragmentAnswer → (before after : Table) → Table
+changed_for (Held octets dropped) before after = after
+changed_for (Whole octets dropped) before after = after
+changed_for (Refused number) before after = before
 
-abbrev pub changedBy : Table → Change → Table
-changedBy table c = changedFor c.answer table (table_of (set table.slots c.index c.slot))
+abbrev pub changed_by : Table → Change → Table
+changed_by table c = changed_for c.answer table (table_of (set table.slots c.index c.slot))
 
 -- the contract of `fragment_change`: the change r, and store and output afterwards
 pub record ChangeGives (lid tick : ℕ) (lsdu : List ℕ) (table : Table) (store output : List ℕ) (r : Change) (store' output' : List ℕ) : Type 0 where
-  pub change-is : r ≡ changeOf lid tick lsdu table (length store) (length output)
-  pub store_is : store' ≡ (fragmentOf lid tick lsdu table store output).store
-  pub output-is : output' ≡ (fragmentOf lid tick lsdu table store output).output
+  pub change_is : r ≡ change_of lid tick lsdu table (length store) (length output)
+  pub store_is : store' ≡ (fragment_of lid tick lsdu table store output).store
+  pub output_is : output' ≡ (fragment_of lid tick lsdu table store output).output
 
 -- the contract of `fragment`: the result r, and store and output afterwards
 pub record FragmentGives (lid tick : ℕ) (lsdu : List ℕ) (table : Table) (store output : List ℕ) (r : FragmentResult) (store' output' : List ℕ) : Type 0 where
-  pub answer-is : fragmentAnswer r.answer ≡ (fragmentOf lid tick lsdu table store output).answer
-  pub table_is : r.table ≡ (fragmentOf lid tick lsdu table store output).table
-  pub store_is : store' ≡ (fragmentOf lid tick lsdu table store output).store
-  pub output-is : output' ≡ (fragmentOf lid tick lsdu table store output).output
+  pub answer_is : fragment_answer r.answer ≡ (fragment_of lid tick lsdu table store output).answer
+  pub table_is : r.table ≡ (fragment_of lid tick lsdu table store output).table
+  pub store_is : store' ≡ (fragment_of lid tick lsdu table store output).store
+  pub output_is : output' ≡ (fragment_of lid tick lsdu table store output).output

@@ -6,17 +6,17 @@ use Rattle.std.specs.Prelude.{ℕ, ◌^◌, ◌≡◌, Bool, true, false, List, 
 use Rattle.refusals.specs.Check.{first_of, Answer, refused, accepted}
 use Rattle.slots.specs.declared.Slot.{Slot}
 use Rattle.slots.specs.declared.Table.{Table}
-use Rattle.slots.specs.Slots.{emptyTable}
+use Rattle.slots.specs.Slots.{empty_table}
 use Rattle.slots.specs.SlotCases.{place, zeros, made, eight, three, wrong}
 use Rattle.reassembly.specs.declared.FragmentFields.{FragmentFields}
 use Rattle.reassembly.specs.declared.Facts.{Facts}
 use Rattle.reassembly.specs.declared.FragmentAnswer.{FragmentAnswer}
 use Rattle.reassembly.specs.declared.FragmentAnswer.TheVariants.{Held, Whole, Refused}
 use Rattle.reassembly.specs.declared.Change.{Change}
-use Rattle.reassembly.specs.Checks.{pairChecks}
-use Rattle.reassembly.specs.Engine.{Taken, held, whole, Outcome, fragmentAnswer, part_at, fragmentTaken, fragmentRefusal, fragmentOf, changeOf, changedBy, ChangeGives, FragmentGives}
+use Rattle.reassembly.specs.Checks.{pair_checks}
+use Rattle.reassembly.specs.Engine.{Taken, held, whole, Outcome, fragment_answer, part_at, fragment_taken, fragment_refusal, fragment_of, change_of, changed_by, ChangeGives, FragmentGives}
 use Rattle.reassembly.specs.Ledger.{Report, refusing, dropping, delivering}
-use Rattle.reassembly.specs.Runs.{fragmentReport, sweepReport, Kept}
+use Rattle.reassembly.specs.Runs.{fragment_report, sweep_report, Kept}
 use Rattle.reassembly.specs.Holding.{HoldsAt}
 use Rattle.reassembly.specs.Demand3.{Demand3}
 
@@ -77,7 +77,7 @@ refusals =
 abbrev pub highest : (last : Bool) → (counter expected : ℕ) → ℕ
 highest last counter expected =
     first_of
-    (pairChecks (record { octets = 1; counter = counter; number = 2; valid = true; last = last })
+    (pair_checks (record { octets = 1; counter = counter; number = 2; valid = true; last = last })
     (record { held = 5; expected = expected; is_open = true; full = false }))
 
 -- ---- which slot changes
@@ -89,15 +89,15 @@ change answer slot index = record { answer = answer; slot = slot; index = index 
 abbrev pub changes : List Change
 changes =
     -- opened in the lowest free slot, continued in its own, opened anew there
-    changeOf 1 20 (0x21 ∷ 0xAA ∷ 0xBB ∷ []) three 4096 512
-    ∷ changeOf 1 20 (0x13 ∷ 0xCC ∷ []) three 4096 512
-    ∷ changeOf 1 20 (0x19 ∷ 0xDD ∷ []) three 4096 512
+    change_of 1 20 (0x21 ∷ 0xAA ∷ 0xBB ∷ []) three 4096 512
+    ∷ change_of 1 20 (0x13 ∷ 0xCC ∷ []) three 4096 512
+    ∷ change_of 1 20 (0x19 ∷ 0xDD ∷ []) three 4096 512
     -- the last: the next one, and one that begins, of a pair with a slot and of one without
-    ∷ changeOf 2 20 (0x93 ∷ 0xEE ∷ []) three 4096 512
-    ∷ changeOf 1 20 (0x99 ∷ 1 ∷ 2 ∷ []) three 4096 512
-    ∷ changeOf 5 20 (0x91 ∷ 1 ∷ []) three 4096 512
+    ∷ change_of 2 20 (0x93 ∷ 0xEE ∷ []) three 4096 512
+    ∷ change_of 1 20 (0x99 ∷ 1 ∷ 2 ∷ []) three 4096 512
+    ∷ change_of 5 20 (0x91 ∷ 1 ∷ []) three 4096 512
     -- refused
-    ∷ changeOf 1 20 [] three 4096 512
+    ∷ change_of 1 20 [] three 4096 512
     ∷ []
 
 -- ---- store and output, in short: slot 0 of four octets, of which two are held
@@ -113,7 +113,7 @@ output = 9 ∷ 9 ∷ 9 ∷ 9 ∷ []
 
 -- the payload CC of LID 1 and number 2 at tick 20
 abbrev pub taken : (last begins : Bool) → Outcome
-taken last begins = fragmentTaken last begins 1 2 20 (0xCC ∷ []) one store output
+taken last begins = fragment_taken last begins 1 2 20 (0xCC ∷ []) one store output
 
 abbrev pub leaves : Answer Taken → Table → List ℕ → List ℕ → Outcome
 leaves answer table store output = record { answer = answer; table = table; store = store; output = output }
@@ -126,7 +126,7 @@ answers = Held 5 3 ∷ Whole 5 3 ∷ Refused 8 ∷ Refused 23 ∷ []
 
 -- what an answer reports, with AA BB 7 7 as output
 abbrev pub reports : Answer Taken → Report
-reports answer = fragmentReport answer store
+reports answer = fragment_report answer store
 
 -- ---- the contracts: what they say of a call that is refused with 1, since its store is short
 
@@ -149,10 +149,10 @@ unclean = record { table = made 0 (zeros ∷ zeros ∷ zeros ∷ zeros ∷ zeros
 -- ---- what is proved
 
 pub record FragmentCasesHold : Type 0 where
-  pub refusing-first :
-      map (λ (c : Refusal). fragmentRefusal c.lid c.lsdu c.table c.store c.output) refusals
+  pub refusing_first :
+      map (λ (c : Refusal). fragment_refusal c.lid c.lsdu c.table c.store c.output) refusals
       ≡ map (λ (c : Refusal). c.number) refusals
-  pub highest-counter :
+  pub highest_counter :
       highest false 65535 65535 ∷ highest true 65535 65535 ∷ highest false 65534 65534 ∷ highest false 65535 3 ∷ []
       ≡ 11 ∷ 0 ∷ 0 ∷ 10 ∷ []
   pub changing :
@@ -167,35 +167,35 @@ pub record FragmentCasesHold : Type 0 where
       taken false false ∷ taken false true ∷ taken true false ∷ taken true true ∷ []
       ≡ leaves (accepted (held 3 0)) (made 1 (place 1 2 2 3 10 ∷ [])) (0xAA ∷ 0xBB ∷ 0xCC ∷ 7 ∷ []) output
       ∷ leaves (accepted (held 1 2)) (made 1 (place 1 2 1 1 20 ∷ [])) (0xCC ∷ 0xBB ∷ 7 ∷ 7 ∷ []) output
-      ∷ leaves (accepted (whole 3 0)) emptyTable store (0xAA ∷ 0xBB ∷ 0xCC ∷ 9 ∷ [])
-      ∷ leaves (accepted (whole 1 2)) emptyTable store (0xCC ∷ 9 ∷ 9 ∷ 9 ∷ []) ∷ []
+      ∷ leaves (accepted (whole 3 0)) empty_table store (0xAA ∷ 0xBB ∷ 0xCC ∷ 9 ∷ [])
+      ∷ leaves (accepted (whole 1 2)) empty_table store (0xCC ∷ 9 ∷ 9 ∷ 9 ∷ []) ∷ []
   -- a refusal changes nothing, here 1 for the short store
-  pub call-refused : fragmentOf 1 20 (0x13 ∷ 0xCC ∷ []) one store output ≡ leaves (refused 1) one store output
-  pub answering : map fragmentAnswer answers ≡ accepted (held 5 3) ∷ accepted (whole 5 3) ∷ refused 8 ∷ refused 23 ∷ []
+  pub call_refused : fragment_of 1 20 (0x13 ∷ 0xCC ∷ []) one store output ≡ leaves (refused 1) one store output
+  pub answering : map fragment_answer answers ≡ accepted (held 5 3) ∷ accepted (whole 5 3) ∷ refused 8 ∷ refused 23 ∷ []
   pub reporting :
       map reports (accepted (held 5 3) ∷ accepted (whole 2 3) ∷ refused 8 ∷ [])
       ≡ dropping 3 ∷ delivering 3 (0xAA ∷ 0xBB ∷ []) ∷ refusing 8 ∷ []
-  pub sweeps-reporting : map sweepReport (accepted 6 ∷ refused 2 ∷ refused 3 ∷ []) ≡ dropping 6 ∷ refusing 2 ∷ refusing 3 ∷ []
+  pub sweeps_reporting : map sweep_report (accepted 6 ∷ refused 2 ∷ refused 3 ∷ []) ≡ dropping 6 ∷ refusing 2 ∷ refusing 3 ∷ []
   -- the table that a change makes
   pub changed :
-      map (changedBy one) (change (Held 4 0) (place 1 3 1 4 20) 1 ∷ change (Whole 3 0) zeros 0 ∷ change (Refused 4) zeros 0 ∷ [])
-      ≡ made 3 (place 1 2 1 2 10 ∷ place 1 3 1 4 20 ∷ []) ∷ emptyTable ∷ one ∷ []
+      map (changed_by one) (change (Held 4 0) (place 1 3 1 4 20) 1 ∷ change (Whole 3 0) zeros 0 ∷ change (Refused 4) zeros 0 ∷ [])
+      ≡ made 3 (place 1 2 1 2 10 ∷ place 1 3 1 4 20 ∷ []) ∷ empty_table ∷ one ∷ []
   -- the contracts, of that refusal: answer, table, store and output are these, and no others
   pub result : Result (Refused 1) one store output
   pub not_answer : Result (Refused 2) one store output → ⊥
-  pub not_table : Result (Refused 1) emptyTable store output → ⊥
-  pub not-store : Result (Refused 1) one output output → ⊥
-  pub not-output : Result (Refused 1) one store store → ⊥
-  pub change-result : ChangeResult 8 store output
-  pub not-change : ChangeResult 0 store output → ⊥
-  pub not-change-store : ChangeResult 8 output output → ⊥
-  pub not-change-output : ChangeResult 8 store store → ⊥
+  pub not_table : Result (Refused 1) empty_table store output → ⊥
+  pub not_store : Result (Refused 1) one output output → ⊥
+  pub not_output : Result (Refused 1) one store store → ⊥
+  pub change_result : ChangeResult 8 store output
+  pub not_change : ChangeResult 0 store output → ⊥
+  pub not_change_store : ChangeResult 8 output output → ⊥
+  pub not_change_output : ChangeResult 8 store store → ⊥
   -- AA and BB in slot 0, opened at tick 10; not if the bit is clear, not with another tick, not AA and BC; and there is no slot 8
   pub holds : HoldsAt (kept 1) 0 1 2 10 ((0xAA ∷ []) ∷ (0xBB ∷ []) ∷ [])
-  pub not-busy : HoldsAt (kept 2) 0 1 2 10 ((0xAA ∷ []) ∷ (0xBB ∷ []) ∷ []) → ⊥
-  pub not-tick : HoldsAt (kept 1) 0 1 2 11 ((0xAA ∷ []) ∷ (0xBB ∷ []) ∷ []) → ⊥
-  pub not-octets : HoldsAt (kept 1) 0 1 2 10 ((0xAA ∷ []) ∷ (0xBC ∷ []) ∷ []) → ⊥
-  pub not-slot-8 : HoldsAt (kept 257) 8 0 0 0 [] → ⊥
+  pub not_busy : HoldsAt (kept 2) 0 1 2 10 ((0xAA ∷ []) ∷ (0xBB ∷ []) ∷ []) → ⊥
+  pub not_tick : HoldsAt (kept 1) 0 1 2 11 ((0xAA ∷ []) ∷ (0xBB ∷ []) ∷ []) → ⊥
+  pub not_octets : HoldsAt (kept 1) 0 1 2 10 ((0xAA ∷ []) ∷ (0xBC ∷ []) ∷ []) → ⊥
+  pub not_slot_8 : HoldsAt (kept 257) 8 0 0 0 [] → ⊥
   -- demand 3 is not met by no calls that leave two octets held, nor by a free slot that is not all zero
-  pub not-balanced : Demand3 store [] [] (kept 1) → ⊥
-  pub not-zero : Demand3 store [] [] unclean → ⊥
+  pub not_balanced : Demand3 store [] [] (kept 1) → ⊥
+  pub not_zero : Demand3 store [] [] unclean → ⊥

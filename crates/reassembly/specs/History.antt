@@ -4,8 +4,8 @@
 -- Assumes nothing.
 use Rattle.std.specs.Prelude.{ℕ, ◌≡◌, Bool, true, false, not, ◌&&◌, ◌||◌, List, [], ◌∷◌, ◌++◌, length, eqb}
 use Rattle.refusals.specs.Check.{pick}
-use Rattle.slots.specs.Sweep.{isAged}
-use Rattle.reassembly.specs.Checks.{fragmentIn, payloadOf}
+use Rattle.slots.specs.Sweep.{is_aged}
+use Rattle.reassembly.specs.Checks.{fragment_in, payload_of}
 use Rattle.reassembly.specs.Ledger.{Call, fragment, expiry, release, Report, refusing, dropping, delivering}
 
 -- a call with what it reported
@@ -13,73 +13,73 @@ pub record Event : Type 0 where
   pub call : Call
   pub report : Report
 
-abbrev pub isAccepted : Report → Bool
-isAccepted (refusing number) = false
-isAccepted (dropping dropped) = true
-isAccepted (delivering dropped message) = true
+abbrev pub is_accepted : Report → Bool
+is_accepted (refusing number) = false
+is_accepted (dropping dropped) = true
+is_accepted (delivering dropped message) = true
 
 -- ---- octets
 
 -- the payload octets of a call, and those that are accepted
-abbrev pub payloadOctets : Call → ℕ
-payloadOctets (fragment lid tick lsdu output) = length (payloadOf lsdu)
-payloadOctets (expiry tick limit) = 0
-payloadOctets (release lid) = 0
+abbrev pub payload_octets : Call → ℕ
+payload_octets (fragment lid tick lsdu output) = length (payload_of lsdu)
+payload_octets (expiry tick limit) = 0
+payload_octets (release lid) = 0
 
-abbrev pub acceptedIn : Event → ℕ
-acceptedIn e = pick (isAccepted e.report) (payloadOctets e.call) 0
+abbrev pub accepted_in : Event → ℕ
+accepted_in e = pick (is_accepted e.report) (payload_octets e.call) 0
 
 -- the octets that a call delivers, and those that it reports dropped
-abbrev pub deliveredOctets : Report → ℕ
-deliveredOctets (refusing number) = 0
-deliveredOctets (dropping dropped) = 0
-deliveredOctets (delivering dropped message) = length message
+abbrev pub delivered_octets : Report → ℕ
+delivered_octets (refusing number) = 0
+delivered_octets (dropping dropped) = 0
+delivered_octets (delivering dropped message) = length message
 
-abbrev pub droppedOctets : Report → ℕ
-droppedOctets (refusing number) = 0
-droppedOctets (dropping dropped) = dropped
-droppedOctets (delivering dropped message) = dropped
+abbrev pub dropped_octets : Report → ℕ
+dropped_octets (refusing number) = 0
+dropped_octets (dropping dropped) = dropped
+dropped_octets (delivering dropped message) = dropped
 
-abbrev pub deliveredIn : Event → ℕ
-deliveredIn e = deliveredOctets e.report
+abbrev pub delivered_in : Event → ℕ
+delivered_in e = delivered_octets e.report
 
-abbrev pub droppedIn : Event → ℕ
-droppedIn e = droppedOctets e.report
+abbrev pub dropped_in : Event → ℕ
+dropped_in e = dropped_octets e.report
 
 -- ---- as a split of the history
 
 -- a fragment of the pair, and an accepted one
-abbrev pub isFragment : ℕ → ℕ → Call → Bool
-isFragment lid number (fragment lid' tick lsdu output) = eqb lid' lid && eqb (fragmentIn lsdu).number number
-isFragment lid number (expiry tick limit) = false
-isFragment lid number (release lid') = false
+abbrev pub is_fragment : ℕ → ℕ → Call → Bool
+is_fragment lid number (fragment lid' tick lsdu output) = eqb lid' lid && eqb (fragment_in lsdu).number number
+is_fragment lid number (expiry tick limit) = false
+is_fragment lid number (release lid') = false
 
 abbrev pub accepts : ℕ → ℕ → Event → Bool
-accepts lid number e = isAccepted e.report && isFragment lid number e.call
+accepts lid number e = is_accepted e.report && is_fragment lid number e.call
 
 -- a fragment call's LSDU and tick
-abbrev pub lsduOf : Call → List ℕ
-lsduOf (fragment lid tick lsdu output) = lsdu
-lsduOf (expiry tick limit) = []
-lsduOf (release lid) = []
+abbrev pub lsdu_of : Call → List ℕ
+lsdu_of (fragment lid tick lsdu output) = lsdu
+lsdu_of (expiry tick limit) = []
+lsdu_of (release lid) = []
 
-abbrev pub tickOf : Call → ℕ
-tickOf (fragment lid tick lsdu output) = tick
-tickOf (expiry tick limit) = tick
-tickOf (release lid) = 0
+abbrev pub tick_of : Call → ℕ
+tick_of (fragment lid tick lsdu output) = tick
+tick_of (expiry tick limit) = tick
+tick_of (release lid) = 0
 
 -- an opening of the pair: an accepted fragment with counter 0, not marked last
 abbrev pub opens : ℕ → ℕ → Event → Bool
-opens lid number e = accepts lid number e && (not (fragmentIn (lsduOf e.call)).last && eqb (fragmentIn (lsduOf e.call)).counter 0)
+opens lid number e = accepts lid number e && (not (fragment_in (lsdu_of e.call)).last && eqb (fragment_in (lsdu_of e.call)).counter 0)
 
 -- an accepted call that closes the pair's message, opened at that tick: a last mark, an expiry of its age, a release of its LID
-abbrev pub closesBy : ℕ → ℕ → (opened : ℕ) → Call → Bool
-closesBy lid number opened (fragment lid' tick lsdu output) = isFragment lid number (fragment lid' tick lsdu output) && (fragmentIn lsdu).last
-closesBy lid number opened (expiry tick limit) = isAged tick limit opened
-closesBy lid number opened (release lid') = eqb lid' lid
+abbrev pub closes_by : ℕ → ℕ → (opened : ℕ) → Call → Bool
+closes_by lid number opened (fragment lid' tick lsdu output) = is_fragment lid number (fragment lid' tick lsdu output) && (fragment_in lsdu).last
+closes_by lid number opened (expiry tick limit) = is_aged tick limit opened
+closes_by lid number opened (release lid') = eqb lid' lid
 
 abbrev pub closes : ℕ → ℕ → (opened : ℕ) → Event → Bool
-closes lid number opened e = isAccepted e.report && closesBy lid number opened e.call
+closes lid number opened e = is_accepted e.report && closes_by lid number opened e.call
 
 -- none of the events opens or closes the pair's message
 unfoldable pub undisturbed : ℕ → ℕ → (opened : ℕ) → List Event → Bool
@@ -87,9 +87,9 @@ undisturbed lid number opened [] = true
 undisturbed lid number opened (e ∷ es) = not (opens lid number e || closes lid number opened e) && undisturbed lid number opened es
 
 -- the payloads of the pair's accepted fragments
-unfoldable pub payloadsIn : ℕ → ℕ → List Event → List (List ℕ)
-payloadsIn lid number [] = []
-payloadsIn lid number (e ∷ es) = pick (accepts lid number e) (payloadOf (lsduOf e.call) ∷ payloadsIn lid number es) (payloadsIn lid number es)
+unfoldable pub payloads_in : ℕ → ℕ → List Event → List (List ℕ)
+payloads_in lid number [] = []
+payloads_in lid number (e ∷ es) = pick (accepts lid number e) (payload_of (lsdu_of e.call) ∷ payloads_in lid number es) (payloads_in lid number es)
 
 -- The pair's message is open since its last opening, at that tick and with these payloads: the history splits there, and nothing behind
 -- it opens or closes the pair.
@@ -98,10 +98,10 @@ pub record OpenSince (lid number : ℕ) (history : List Event) (tick : ℕ) (pay
   pub opening : Event
   pub after : List Event
   pub split : history ≡ before ++ (opening ∷ after)
-  pub is-opening : opens lid number opening ≡ true
-  pub still_open : undisturbed lid number (tickOf opening.call) after ≡ true
-  pub tick_is : tick ≡ tickOf opening.call
-  pub payloads-are : payloads ≡ payloadOf (lsduOf opening.call) ∷ payloadsIn lid number after
+  pub is_opening : opens lid number opening ≡ true
+  pub still_open : undisturbed lid number (tick_of opening.call) after ≡ true
+  pub tick_is : tick ≡ tick_of opening.call
+  pub payloads_are : payloads ≡ payload_of (lsdu_of opening.call) ∷ payloads_in lid number after
 
 -- ---- as a fold
 
@@ -116,18 +116,18 @@ continued (opened tick payloads) payload = opened tick (payloads ++ (payload ∷
 
 abbrev pub expired : ℕ → ℕ → Open → Open
 expired tick limit closed = closed
-expired tick limit (opened tick' payloads) = pick (isAged tick limit tick') closed (opened tick' payloads)
+expired tick limit (opened tick' payloads) = pick (is_aged tick limit tick') closed (opened tick' payloads)
 
 -- what an accepted call makes of the pair's message
 abbrev pub after_call : ℕ → ℕ → Call → Open → Open
 after_call lid number (fragment lid' tick lsdu output) o =
-    pick (eqb lid' lid && eqb (fragmentIn lsdu).number number)
-    (pick (fragmentIn lsdu).last closed (pick (eqb (fragmentIn lsdu).counter 0) (opened tick (payloadOf lsdu ∷ [])) (continued o (payloadOf lsdu))))
+    pick (eqb lid' lid && eqb (fragment_in lsdu).number number)
+    (pick (fragment_in lsdu).last closed (pick (eqb (fragment_in lsdu).counter 0) (opened tick (payload_of lsdu ∷ [])) (continued o (payload_of lsdu))))
     o
 after_call lid number (expiry tick limit) o = expired tick limit o
 after_call lid number (release lid') o = pick (eqb lid' lid) closed o
 
 -- the pair's message after the events
-unfoldable pub heldAfter : ℕ → ℕ → Open → List Event → Open
-heldAfter lid number o [] = o
-heldAfter lid number o (e ∷ es) = heldAfter lid number (pick (isAccepted e.report) (after_call lid number e.call o) o) es
+unfoldable pub held_after : ℕ → ℕ → Open → List Event → Open
+held_after lid number o [] = o
+held_after lid number o (e ∷ es) = held_after lid number (pick (is_accepted e.report) (after_call lid number e.call o) o) es

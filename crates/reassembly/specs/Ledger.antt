@@ -3,10 +3,10 @@
 -- Assumes nothing.
 use Rattle.std.specs.Prelude.{ℕ, ◌+◌, Bool, true, false, not, ◌&&◌, List, [], ◌∷◌, ◌++◌, length, eqb, leb}
 use Rattle.refusals.specs.Check.{pick, Check, first_of}
-use Rattle.slots.specs.Slots.{slotCount, total}
-use Rattle.slots.specs.Sweep.{isAged, expiryChecks, releaseChecks}
+use Rattle.slots.specs.Slots.{slot_count, total}
+use Rattle.slots.specs.Sweep.{is_aged, expiry_checks, release_checks}
 use Rattle.reassembly.specs.declared.Facts.{Facts}
-use Rattle.reassembly.specs.Checks.{fragmentIn, payloadOf, fragmentChecks}
+use Rattle.reassembly.specs.Checks.{fragment_in, payload_of, fragment_checks}
 
 -- what the ledger sees of a call: output is a length
 pub data Call : Type 0 where
@@ -43,29 +43,29 @@ abbrev pub first_or : {A : Type 0} → A → List A → A
 first_or other [] = other
 first_or other (x ∷ xs) = x
 
-abbrev pub someIn : {A : Type 0} → List A → Bool
-someIn [] = false
-someIn (x ∷ xs) = true
+abbrev pub some_in : {A : Type 0} → List A → Bool
+some_in [] = false
+some_in (x ∷ xs) = true
 
 -- ---- the messages kept
 
-abbrev pub ofPair : ℕ → ℕ → Message → Bool
-ofPair lid number m = eqb m.lid lid && eqb m.number number
+abbrev pub of_pair : ℕ → ℕ → Message → Bool
+of_pair lid number m = eqb m.lid lid && eqb m.number number
 
 -- the octets of a message
-abbrev pub octetsOf : Message → ℕ
-octetsOf m = length (joined m.payloads)
+abbrev pub octets_of : Message → ℕ
+octets_of m = length (joined m.payloads)
 
-abbrev pub noMessage : Message
-noMessage = record { lid = 0; number = 0; tick = 0; payloads = [] }
+abbrev pub no_message : Message
+no_message = record { lid = 0; number = 0; tick = 0; payloads = [] }
 
 -- the message kept for the pair, or one with no payload
-abbrev pub keptFor : ℕ → ℕ → List Message → Message
-keptFor lid number kept = first_or noMessage (those (ofPair lid number) kept)
+abbrev pub kept_for : ℕ → ℕ → List Message → Message
+kept_for lid number kept = first_or no_message (those (of_pair lid number) kept)
 
 -- all messages but the pair's
-abbrev pub allBut : ℕ → ℕ → List Message → List Message
-allBut lid number kept = those (λ m. not (ofPair lid number m)) kept
+abbrev pub all_but : ℕ → ℕ → List Message → List Message
+all_but lid number kept = those (λ m. not (of_pair lid number m)) kept
 
 -- ---- the checks
 
@@ -73,22 +73,22 @@ allBut lid number kept = those (λ m. not (ofPair lid number m)) kept
 -- eight messages are kept
 unfoldable pub facts_of : ℕ → ℕ → List Message → Facts
 facts_of lid number kept = record {
-  is_open = someIn (those (ofPair lid number) kept);
-  expected = length (keptFor lid number kept).payloads;
-  held = octetsOf (keptFor lid number kept);
-  full = leb slotCount (length kept);
+  is_open = some_in (those (of_pair lid number) kept);
+  expected = length (kept_for lid number kept).payloads;
+  held = octets_of (kept_for lid number kept);
+  full = leb slot_count (length kept);
 }
 
 -- the checks of a call with a store of that length; 2 never holds
-abbrev pub ledgerChecks : (store : ℕ) → Call → List Message → List Check
-ledgerChecks store (fragment lid tick lsdu output) kept =
-    fragmentChecks store output false lid (length lsdu) (fragmentIn lsdu) (facts_of lid (fragmentIn lsdu).number kept)
-ledgerChecks store (expiry tick limit) kept = expiryChecks false
-ledgerChecks store (release lid) kept = releaseChecks false lid
+abbrev pub ledger_checks : (store : ℕ) → Call → List Message → List Check
+ledger_checks store (fragment lid tick lsdu output) kept =
+    fragment_checks store output false lid (length lsdu) (fragment_in lsdu) (facts_of lid (fragment_in lsdu).number kept)
+ledger_checks store (expiry tick limit) kept = expiry_checks false
+ledger_checks store (release lid) kept = release_checks false lid
 
 -- the number of the first check to hold, or 0
-unfoldable pub ledgerRefusal : (store : ℕ) → Call → List Message → ℕ
-ledgerRefusal store call kept = first_of (ledgerChecks store call kept)
+unfoldable pub ledger_refusal : (store : ℕ) → Call → List Message → ℕ
+ledger_refusal store call kept = first_of (ledger_checks store call kept)
 
 -- ---- the effect
 
@@ -101,42 +101,42 @@ pub record After : Type 0 where
 -- delivers that and ends it
 unfoldable pub joining : (last begins : Bool) → (lid number tick : ℕ) → (payload : List ℕ) → List Message → After
 joining last begins lid number tick payload kept =
-    let m = keptFor lid number kept in
+    let m = kept_for lid number kept in
     let payloads = pick begins [] m.payloads ++ (payload ∷ []) in
-    let dropped = pick begins (octetsOf m) 0 in
+    let dropped = pick begins (octets_of m) 0 in
     pick last
-    (record { report = delivering dropped (joined payloads); kept = allBut lid number kept })
+    (record { report = delivering dropped (joined payloads); kept = all_but lid number kept })
     (record {
       report = dropping dropped;
-      kept = record { lid = lid; number = number; tick = pick begins tick m.tick; payloads = payloads } ∷ allBut lid number kept;
+      kept = record { lid = lid; number = number; tick = pick begins tick m.tick; payloads = payloads } ∷ all_but lid number kept;
     })
 
 -- the messages that a test picks are dropped
-abbrev pub dropThose : (Message → Bool) → List Message → After
-dropThose test kept = record { report = dropping (total octetsOf (those test kept)); kept = those (λ m. not (test m)) kept }
+abbrev pub drop_those : (Message → Bool) → List Message → After
+drop_those test kept = record { report = dropping (total octets_of (those test kept)); kept = those (λ m. not (test m)) kept }
 
 -- expiry drops by age, release by LID
-abbrev pub ledgerEffect : Call → List Message → After
-ledgerEffect (fragment lid tick lsdu output) kept =
-    joining (fragmentIn lsdu).last (eqb (fragmentIn lsdu).counter 0) lid (fragmentIn lsdu).number tick (payloadOf lsdu) kept
-ledgerEffect (expiry tick limit) kept = dropThose (λ m. isAged tick limit m.tick) kept
-ledgerEffect (release lid) kept = dropThose (λ m. eqb m.lid lid) kept
+abbrev pub ledger_effect : Call → List Message → After
+ledger_effect (fragment lid tick lsdu output) kept =
+    joining (fragment_in lsdu).last (eqb (fragment_in lsdu).counter 0) lid (fragment_in lsdu).number tick (payload_of lsdu) kept
+ledger_effect (expiry tick limit) kept = drop_those (λ m. is_aged tick limit m.tick) kept
+ledger_effect (release lid) kept = drop_those (λ m. eqb m.lid lid) kept
 
 -- ---- calls one after the other
 
 -- the first check to hold refuses, and nothing changes; else the effect
-unfoldable pub ledgerStep : (store : ℕ) → Call → List Message → After
-ledgerStep store call kept =
-    pick (eqb (ledgerRefusal store call kept) 0)
-    (ledgerEffect call kept)
-    (record { report = refusing (ledgerRefusal store call kept); kept = kept })
+unfoldable pub ledger_step : (store : ℕ) → Call → List Message → After
+ledger_step store call kept =
+    pick (eqb (ledger_refusal store call kept) 0)
+    (ledger_effect call kept)
+    (record { report = refusing (ledger_refusal store call kept); kept = kept })
 
 -- what the calls of a list report
-unfoldable pub ledgerReports : (store : ℕ) → List Call → List Message → List Report
-ledgerReports store [] kept = []
-ledgerReports store (call ∷ calls) kept = (ledgerStep store call kept).report ∷ ledgerReports store calls (ledgerStep store call kept).kept
+unfoldable pub ledger_reports : (store : ℕ) → List Call → List Message → List Report
+ledger_reports store [] kept = []
+ledger_reports store (call ∷ calls) kept = (ledger_step store call kept).report ∷ ledger_reports store calls (ledger_step store call kept).kept
 
 -- the messages kept after them
-unfoldable pub ledgerAfter : (store : ℕ) → List Call → List Message → List Message
-ledgerAfter store [] kept = kept
-ledgerAfter store (call ∷ calls) kept = ledgerAfter store calls (ledgerStep store call kept).kept
+unfoldable pub ledger_after : (store : ℕ) → List Call → List Message → List Message
+ledger_after store [] kept = kept
+ledger_after store (call ∷ calls) kept = ledger_after store calls (ledger_step store call kept).kept

@@ -3,8 +3,8 @@
 -- Assumes nothing.
 use Rattle.std.specs.Prelude.{ℕ, ◌-◌, ◌^◌, ◌≡◌, List, [], ◌∷◌, ◌++◌, map, take, replicate}
 use Rattle.slots.specs.Slots.{total}
-use Rattle.reassembly.specs.Ledger.{Call, fragment, expiry, release, Report, refusing, dropping, delivering, ledgerReports}
-use Rattle.reassembly.specs.History.{Event, acceptedIn, deliveredIn, droppedIn, Open, closed, opened, heldAfter}
+use Rattle.reassembly.specs.Ledger.{Call, fragment, expiry, release, Report, refusing, dropping, delivering, ledger_reports}
+use Rattle.reassembly.specs.History.{Event, accepted_in, delivered_in, dropped_in, Open, closed, opened, held_after}
 
 -- a fragment call with an output of 512 octets
 abbrev pub comes : (lid tick : ℕ) → List ℕ → Report → Event
@@ -81,15 +81,15 @@ cases =
 abbrev pub early : List Event
 early = take 13 cases
 
-abbrev pub heldIn : List Open
-heldIn = heldAfter 1 2 closed early ∷ heldAfter 1 3 closed early ∷ heldAfter 2 2 closed early ∷ heldAfter 3 2 closed early ∷ []
+abbrev pub held_in : List Open
+held_in = held_after 1 2 closed early ∷ held_after 1 3 closed early ∷ held_after 2 2 closed early ∷ held_after 3 2 closed early ∷ []
 
 -- octets accepted, delivered and dropped
-abbrev pub octetsIn : List ℕ
-octetsIn = total acceptedIn early ∷ total deliveredIn early ∷ total droppedIn early ∷ []
+abbrev pub octets_in : List ℕ
+octets_in = total accepted_in early ∷ total delivered_in early ∷ total dropped_in early ∷ []
 
 -- what is proved
 pub record LedgerCasesHold : Type 0 where
-  pub reports : ledgerReports 4096 (map (λ (e : Event). e.call) cases) [] ≡ map (λ (e : Event). e.report) cases
-  pub open-ones : heldIn ≡ opened 35 ((0x07 ∷ []) ∷ []) ∷ closed ∷ closed ∷ opened 38 ((0x0A ∷ []) ∷ []) ∷ []
-  pub balance : octetsIn ≡ 13 ∷ 7 ∷ 4 ∷ []
+  pub reports : ledger_reports 4096 (map (λ (e : Event). e.call) cases) [] ≡ map (λ (e : Event). e.report) cases
+  pub open_ones : held_in ≡ opened 35 ((0x07 ∷ []) ∷ []) ∷ closed ∷ closed ∷ opened 38 ((0x0A ∷ []) ∷ []) ∷ []
+  pub balance : octets_in ≡ 13 ∷ 7 ∷ 4 ∷ []

@@ -6,21 +6,21 @@ use Rattle.std.specs.Prelude.{ℕ, List, [], ◌∷◌, length, take}
 use Rattle.refusals.specs.Check.{Answer, refused, accepted}
 use Rattle.slots.specs.declared.Table.{Table}
 use Rattle.slots.specs.declared.SweepResult.{SweepResult}
-use Rattle.slots.specs.Sweep.{sweepAnswer, ExpiryGives, ReleaseGives}
+use Rattle.slots.specs.Sweep.{sweep_answer, ExpiryGives, ReleaseGives}
 use Rattle.reassembly.specs.declared.FragmentResult.{FragmentResult}
-use Rattle.reassembly.specs.Engine.{Taken, held, whole, fragmentAnswer, FragmentGives}
+use Rattle.reassembly.specs.Engine.{Taken, held, whole, fragment_answer, FragmentGives}
 use Rattle.reassembly.specs.Ledger.{Call, fragment, expiry, release, Report, refusing, dropping, delivering}
 use Rattle.reassembly.specs.History.{Event}
 
 -- what a fragment call reports: a message delivered is what stands at the front of the output
-abbrev pub fragmentReport : Answer Taken → (output : List ℕ) → Report
-fragmentReport (refused number) output = refusing number
-fragmentReport (accepted (held octets dropped)) output = dropping dropped
-fragmentReport (accepted (whole octets dropped)) output = delivering dropped (take octets output)
+abbrev pub fragment_report : Answer Taken → (output : List ℕ) → Report
+fragment_report (refused number) output = refusing number
+fragment_report (accepted (held octets dropped)) output = dropping dropped
+fragment_report (accepted (whole octets dropped)) output = delivering dropped (take octets output)
 
-abbrev pub sweepReport : Answer ℕ → Report
-sweepReport (refused number) = refusing number
-sweepReport (accepted dropped) = dropping dropped
+abbrev pub sweep_report : Answer ℕ → Report
+sweep_report (refused number) = refusing number
+sweep_report (accepted dropped) = dropping dropped
 
 -- a table and a store
 pub record Kept : Type 0 where
@@ -34,15 +34,15 @@ pub data Ran : List Call → Table → List ℕ → List Event → Kept → Type
       (r : FragmentResult) (store' output' : List ℕ) → FragmentGives lid tick lsdu table store output r store' output'
       → Ran calls r.table store' history left
       → Ran (fragment lid tick lsdu (length output) ∷ calls) table store
-      (record { call = fragment lid tick lsdu (length output); report = fragmentReport (fragmentAnswer r.answer) output' } ∷ history) left
+      (record { call = fragment lid tick lsdu (length output); report = fragment_report (fragment_answer r.answer) output' } ∷ history) left
   expired : {tick limit : ℕ} {calls : List Call} {table : Table} {store : List ℕ} {history : List Event} {left : Kept}
       (r : SweepResult) → ExpiryGives tick limit table r
       → Ran calls r.table store history left
-      → Ran (expiry tick limit ∷ calls) table store (record { call = expiry tick limit; report = sweepReport (sweepAnswer r.answer) } ∷ history) left
+      → Ran (expiry tick limit ∷ calls) table store (record { call = expiry tick limit; report = sweep_report (sweep_answer r.answer) } ∷ history) left
   released : {lid : ℕ} {calls : List Call} {table : Table} {store : List ℕ} {history : List Event} {left : Kept}
       (r : SweepResult) → ReleaseGives lid table r
       → Ran calls r.table store history left
-      → Ran (release lid ∷ calls) table store (record { call = release lid; report = sweepReport (sweepAnswer r.answer) } ∷ history) left
+      → Ran (release lid ∷ calls) table store (record { call = release lid; report = sweep_report (sweep_answer r.answer) } ∷ history) left
 
 -- ---- there are runs
 

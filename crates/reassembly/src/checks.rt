@@ -1,14 +1,14 @@
 // The checks of a fragment call, in the order of 01's table: 1 to 4, then 5 to 12.
 ghost use Rattle.std.specs.Prelude.{◌≡◌, ◌+◌, ◌&&◌, not, ◌++◌, eqb, ltb};
 ghost use Rattle.refusals.specs.Check.{pick, first_of};
-ghost use Rattle.slots.specs.Slots.{slotOctets};
-ghost use Rattle.reassembly.specs.Checks.{lastCounter, lsduChecks, headerChecks, pairChecks};
+ghost use Rattle.slots.specs.Slots.{slot_octets};
+ghost use Rattle.reassembly.specs.Checks.{last_counter, lsdu_checks, header_checks, pair_checks};
 
 use crate::{Facts, FragmentFields};
 
 // The refusal 1 to 4 that applies first, or 0.
 pub(crate) fn lsdu_refusal(store: usize, output: usize, sound: bool, lid: u32, lsdu: usize) -> u8
-    ensures { result ≡ first_of (lsduChecks store output (not sound) lid lsdu) }
+    ensures { result ≡ first_of (lsdu_checks store output (not sound) lid lsdu) }
 {
     if store != crate::STORE_OCTETS {
         return refusals::STORE_OR_OUTPUT_LENGTH;
@@ -48,7 +48,7 @@ pub(crate) fn choose(b: bool, x: usize, y: usize) -> usize
 
 // Whether the sum is more than a slot holds, whatever the numbers.
 fn exceeds(held: usize, payload: usize) -> bool
-    ensures { result ≡ ltb slotOctets (held + payload) }
+    ensures { result ≡ ltb slot_octets (held + payload) }
 {
     if slots::SLOT_OCTETS < held {
         return true;
@@ -81,7 +81,7 @@ fn is_unexpected(fragment: FragmentFields, facts: Facts) -> bool
 
 // 11: the highest counter as expected, and not last.
 fn is_exhausted(fragment: FragmentFields, facts: Facts) -> bool
-    ensures { result ≡ (eqb fragment.counter lastCounter && eqb fragment.counter facts.expected && not fragment.last) }
+    ensures { result ≡ (eqb fragment.counter last_counter && eqb fragment.counter facts.expected && not fragment.last) }
 {
     let highest = both(
         fragment.counter == crate::LAST_COUNTER,
@@ -92,7 +92,7 @@ fn is_exhausted(fragment: FragmentFields, facts: Facts) -> bool
 
 // 12: the octets held, none for counter 0, and the payload are more than a slot holds.
 fn is_too_long(fragment: FragmentFields, facts: Facts) -> bool
-    ensures { result ≡ ltb slotOctets (pick (eqb fragment.counter 0) 0 facts.held + fragment.octets) }
+    ensures { result ≡ ltb slot_octets (pick (eqb fragment.counter 0) 0 facts.held + fragment.octets) }
 {
     let held = choose(fragment.counter == 0, 0, facts.held);
     exceeds(held, fragment.octets)
@@ -100,7 +100,7 @@ fn is_too_long(fragment: FragmentFields, facts: Facts) -> bool
 
 // The refusal 8 to 12 that applies first, or 0.
 fn pair_refusal(fragment: FragmentFields, facts: Facts) -> u8
-    ensures { result ≡ first_of (pairChecks fragment facts) }
+    ensures { result ≡ first_of (pair_checks fragment facts) }
 {
     if is_not_open(fragment, facts) {
         return refusals::NOT_OPEN;
@@ -122,7 +122,7 @@ fn pair_refusal(fragment: FragmentFields, facts: Facts) -> u8
 
 // The refusal 5 to 12 that applies first, or 0.
 pub(crate) fn fragment_refusal(fragment: FragmentFields, facts: Facts) -> u8
-    ensures { result ≡ first_of (headerChecks fragment ++ pairChecks fragment facts) }
+    ensures { result ≡ first_of (header_checks fragment ++ pair_checks fragment facts) }
 {
     if !fragment.valid {
         return refusals::HEADER_NOT_VALID;

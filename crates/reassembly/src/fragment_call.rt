@@ -1,8 +1,8 @@
 // The fragment call: checks 1 to 12 in their order, then the fragment is taken.
 ghost use Rattle.std.specs.Prelude.{◌≡◌};
-ghost use Rattle.slots.specs.Slots.{slotCount, free};
-ghost use Rattle.reassembly.specs.Checks.{fragmentIn};
-ghost use Rattle.reassembly.specs.Engine.{factsFrom, changedBy, ChangeGives, FragmentGives};
+ghost use Rattle.slots.specs.Slots.{slot_count, free};
+ghost use Rattle.reassembly.specs.Checks.{fragment_in};
+ghost use Rattle.reassembly.specs.Engine.{facts_from, changed_by, ChangeGives, FragmentGives};
 ghost use Rattle.reassembly.specs.Demand3.{Demanded};
 ghost use Rattle.reassembly.specs.Runs.{RunsExist};
 
@@ -14,7 +14,7 @@ use slots::{Slot, Table};
 
 // The fragment of an LSDU, as its header gives it.
 fn fragment_in(lsdu: &[u8]) -> FragmentFields
-    ensures { result ≡ fragmentIn lsdu.now }
+    ensures { result ≡ fragment_in lsdu.now }
 {
     match header::read(lsdu) {
         HeaderRead::Fields { header, size } => FragmentFields {
@@ -36,7 +36,7 @@ fn fragment_in(lsdu: &[u8]) -> FragmentFields
 
 // The facts of a pair, whose slot this is.
 fn facts_of(slot: Slot, table: Table) -> Facts
-    ensures { result ≡ factsFrom slot table }
+    ensures { result ≡ facts_from slot table }
 {
     Facts {
         is_open: slot.next != 0,
@@ -48,7 +48,7 @@ fn facts_of(slot: Slot, table: Table) -> Facts
 
 // A refusal changes no slot.
 fn refusal(number: u8) -> Change
-    ensures { result ≡ record { answer = FragmentAnswer.Refused number; slot = free; index = slotCount } }
+    ensures { result ≡ record { answer = FragmentAnswer.Refused number; slot = free; index = slot_count } }
 {
     Change {
         answer: FragmentAnswer::Refused(number),
@@ -104,7 +104,7 @@ pub fn fragment_change(
 
 // The table after a change.
 fn changed(table: Table, c: Change) -> Table
-    ensures { result ≡ changedBy table c }
+    ensures { result ≡ changed_by table c }
 {
     let answer = c.answer;
     let slot = c.slot;

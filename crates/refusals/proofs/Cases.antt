@@ -2,8 +2,8 @@
 -- Assumes nothing.
 use mathlib.Core.Path.{refl}
 use Rattle.refusals.specs.Check.{first_of, decided}
-use Rattle.refusals.specs.CheckCases.{checkCases, CheckCasesHold}
+use Rattle.refusals.specs.CheckCases.{check_cases, CheckCasesHold}
 
-pub check-cases-hold : CheckCasesHold
-unfolding CheckCasesHold checkCases first_of decided
-check-cases-hold = refl
+pub check_cases_hold : CheckCasesHold
+unfolding CheckCasesHold check_cases first_of decided
+check_cases_hold = refl

@@ -7,8 +7,8 @@ pub record Case : Type 0 where
   pub checks : List Check
   pub gives : Answer ℕ
 
-unfoldable pub checkCases : List Case
-checkCases =
+unfoldable pub check_cases : List Case
+check_cases =
     -- no check; none that holds
     record { checks = []; gives = accepted 90 }
     ∷ record { checks = check 3 false ∷ check 5 false ∷ []; gives = accepted 90 }
@@ -22,4 +22,4 @@ checkCases =
 
 -- every case gives what it says
 unfoldable pub CheckCasesHold : Type 0
-CheckCasesHold = map (λ (c : Case). decided (first_of c.checks) 90) checkCases ≡ map (λ (c : Case). c.gives) checkCases
+CheckCasesHold = map (λ (c : Case). decided (first_of c.checks) 90) check_cases ≡ map (λ (c : Case). c.gives) check_cases

@@ -2,25 +2,25 @@
 use Rattle.std.proofs.Common.{◌≡◌, ℕ, suc, ◌+◌, ◌<◌, ◌≤◌, Bool, true, false, List, [], ◌∷◌, ◌++◌, length, get_or, take, drop, sym, refl, ap, ◌∙◌, add-zero, add-one, arith, drop-cons, take-suc}
 use Rattle.refusals.specs.Check.{pick}
 use Rattle.slots.specs.declared.Slot.{Slot}
-use Rattle.slots.specs.Slots.{free, holdsPair, index_of, total, held_of}
+use Rattle.slots.specs.Slots.{free, holds_pair, index_of, total, held_of}
 
 module _ (lid number : ℕ) (slots : List Slot) (i : ℕ) (h : i < length slots) where
-  index-step : index_of lid number (drop i slots) ≡ pick (holdsPair lid number (get_or slots i free)) 0 (index_of lid number (drop (i + 1) slots) + 1)
+  index_step : index_of lid number (drop i slots) ≡ pick (holds_pair lid number (get_or slots i free)) 0 (index_of lid number (drop (i + 1) slots) + 1)
   unfolding index_of
-  index-step =
+  index_step =
       ap (index_of lid number) (drop-cons slots i free h)
-      ∙ ap (λ (k : ℕ). pick (holdsPair lid number (get_or slots i free)) 0 (index_of lid number (drop k slots) + 1)) (sym (add-one i))
+      ∙ ap (λ (k : ℕ). pick (holds_pair lid number (get_or slots i free)) 0 (index_of lid number (drop k slots) + 1)) (sym (add-one i))
 
-  pub index-here : holdsPair lid number (get_or slots i free) ≡ true → index_of lid number (drop i slots) ≡ 0
-  index-here e = index-step ∙ ap (λ (b : Bool). pick b 0 (index_of lid number (drop (i + 1) slots) + 1)) e
+  pub index_here : holds_pair lid number (get_or slots i free) ≡ true → index_of lid number (drop i slots) ≡ 0
+  index_here e = index_step ∙ ap (λ (b : Bool). pick b 0 (index_of lid number (drop (i + 1) slots) + 1)) e
 
-  pub index-there : holdsPair lid number (get_or slots i free) ≡ false → index_of lid number (drop i slots) ≡ index_of lid number (drop (i + 1) slots) + 1
-  index-there e = index-step ∙ ap (λ (b : Bool). pick b 0 (index_of lid number (drop (i + 1) slots) + 1)) e
+  pub index_there : holds_pair lid number (get_or slots i free) ≡ false → index_of lid number (drop i slots) ≡ index_of lid number (drop (i + 1) slots) + 1
+  index_there e = index_step ∙ ap (λ (b : Bool). pick b 0 (index_of lid number (drop (i + 1) slots) + 1)) e
 
-pub index-le : (lid number : ℕ) (slots : List Slot) → index_of lid number slots ≤ length slots
+pub index_le : (lid number : ℕ) (slots : List Slot) → index_of lid number slots ≤ length slots
 unfolding index_of
-index-le lid number [] = omega arith
-index-le lid number (slot ∷ slots) = go (holdsPair lid number slot) (index-le lid number slots)
+index_le lid number [] = omega arith
+index_le lid number (slot ∷ slots) = go (holds_pair lid number slot) (index_le lid number slots)
   where
     go : (b : Bool) → index_of lid number slots ≤ length slots → pick b 0 (index_of lid number slots + 1) ≤ suc (length slots)
     go true h = omega arith
@@ -28,17 +28,17 @@ index-le lid number (slot ∷ slots) = go (holdsPair lid number slot) (index-le 
 
 -- ---- sums
 
-pub total-append : {A : Type 0} (f : A → ℕ) (xs ys : List A) → total f (xs ++ ys) ≡ total f xs + total f ys
+pub total_append : {A : Type 0} (f : A → ℕ) (xs ys : List A) → total f (xs ++ ys) ≡ total f xs + total f ys
 unfolding total
-total-append f [] ys = omega arith
-total-append f (x ∷ xs) ys = ap (λ (n : ℕ). f x + n) (total-append f xs ys) ∙ omega arith
+total_append f [] ys = omega arith
+total_append f (x ∷ xs) ys = ap (λ (n : ℕ). f x + n) (total_append f xs ys) ∙ omega arith
 
-pub total-none : {A : Type 0} (f : A → ℕ) → ◌≡◌ {A = ℕ} 0 (total f [])
+pub total_none : {A : Type 0} (f : A → ℕ) → ◌≡◌ {A = ℕ} 0 (total f [])
 unfolding total
-total-none f = refl
+total_none f = refl
 
-pub total-step : (slots : List Slot) (i : ℕ) → i < length slots → total held_of (take i slots) + (get_or slots i free).held ≡ total held_of (take (i + 1) slots)
+pub total_step : (slots : List Slot) (i : ℕ) → i < length slots → total held_of (take i slots) + (get_or slots i free).held ≡ total held_of (take (i + 1) slots)
 unfolding total
-total-step slots i h =
+total_step slots i h =
     sym (ap (λ (k : ℕ). total held_of (take k slots)) (add-one i) ∙ ap (total held_of) (take-suc slots i free h)
-    ∙ total-append held_of (take i slots) (get_or slots i free ∷ []) ∙ ap (λ (k : ℕ). total held_of (take i slots) + k) (add-zero _))
+    ∙ total_append held_of (take i slots) (get_or slots i free ∷ []) ∙ ap (λ (k : ℕ). total held_of (take i slots) + k) (add-zero _))

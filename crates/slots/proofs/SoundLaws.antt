@@ -5,58 +5,58 @@ use borrow.Author.Tests.{eqb-false}
 use Rattle.refusals.specs.Check.{pick}
 use Rattle.slots.specs.declared.Slot.{Slot}
 use Rattle.slots.specs.declared.Table.{Table}
-use Rattle.slots.specs.Slots.{free, isBusy, bit_of, word_of, lowBit, allZero, busySound, pairInRange, slotOctets, eachSound, busySlots, noneShares, noTwoShare, isSound}
-use Rattle.slots.specs.Model.{soundSlot, allSound, sharesPair, noneLike, bothHold, alone, distinct}
+use Rattle.slots.specs.Slots.{free, is_busy, bit_of, word_of, low_bit, all_zero, busy_sound, pair_in_range, slot_octets, each_sound, busy_slots, none_shares, no_two_share, is_sound}
+use Rattle.slots.specs.Model.{sound_slot, all_sound, shares_pair, none_like, both_hold, alone, distinct}
 use Rattle.slots.proofs.Tests.{and_l, and_r, and_i, same_test}
-use Rattle.slots.proofs.WordLaws.{half-word, low_bit}
+use Rattle.slots.proofs.WordLaws.{half_word, low_bit_law}
 
 -- ---- one slot
 
 module _ (slot : Slot) where
   -- a slot that is sound by its bit is sound, and its bit is whether it is busy
-  pub busy-is : busySound slot ≡ true → isBusy slot ≡ true
-  busy-is h = ap not (ne_eqb slot.next 0 (λ e. omega (arith, leb-true 1 slot.next (first h), e)))
+  pub busy_is : busy_sound slot ≡ true → is_busy slot ≡ true
+  busy_is h = ap not (ne_eqb slot.next 0 (λ e. omega (arith, leb-true 1 slot.next (first h), e)))
     where
-      first : busySound slot ≡ true → leb 1 slot.next ≡ true
+      first : busy_sound slot ≡ true → leb 1 slot.next ≡ true
       first h =
           and_l (leb 1 slot.next) (leb slot.next slot.held)
-          (and_l (leb 1 slot.next && leb slot.next slot.held) (leb slot.held slotOctets)
-          (and_l (leb 1 slot.next && leb slot.next slot.held && leb slot.held slotOctets) (pairInRange slot.lid slot.number) h))
+          (and_l (leb 1 slot.next && leb slot.next slot.held) (leb slot.held slot_octets)
+          (and_l (leb 1 slot.next && leb slot.next slot.held && leb slot.held slot_octets) (pair_in_range slot.lid slot.number) h))
 
-  pub held_small : soundSlot slot ≡ true → slot.held ≤ 512
-  held_small h = go (isBusy slot) h
+  pub held_small : sound_slot slot ≡ true → slot.held ≤ 512
+  held_small h = go (is_busy slot) h
     where
-      go : (b : Bool) → pick b (busySound slot) (allZero slot) ≡ true → slot.held ≤ 512
+      go : (b : Bool) → pick b (busy_sound slot) (all_zero slot) ≡ true → slot.held ≤ 512
       go true h =
-          leb-true slot.held slotOctets
-          (and_r (leb 1 slot.next && leb slot.next slot.held) (leb slot.held slotOctets)
-          (and_l (leb 1 slot.next && leb slot.next slot.held && leb slot.held slotOctets) (pairInRange slot.lid slot.number) h))
+          leb-true slot.held slot_octets
+          (and_r (leb 1 slot.next && leb slot.next slot.held) (leb slot.held slot_octets)
+          (and_l (leb 1 slot.next && leb slot.next slot.held && leb slot.held slot_octets) (pair_in_range slot.lid slot.number) h))
       go false h = omega (arith, eqb-true slot.held 0 (zero_held h))
         where
-          zero_held : allZero slot ≡ true → eqb slot.held 0 ≡ true
+          zero_held : all_zero slot ≡ true → eqb slot.held 0 ≡ true
           zero_held h =
               and_r (eqb slot.lid 0 && eqb slot.number 0 && eqb slot.next 0) (eqb slot.held 0)
               (and_l (eqb slot.lid 0 && eqb slot.number 0 && eqb slot.next 0 && eqb slot.held 0) (eqb slot.tick 0) h)
 
-  pub next-held : soundSlot slot ≡ true → slot.next ≤ slot.held
-  next-held h = go (isBusy slot) h
+  pub next_held : sound_slot slot ≡ true → slot.next ≤ slot.held
+  next_held h = go (is_busy slot) h
     where
-      go : (b : Bool) → pick b (busySound slot) (allZero slot) ≡ true → slot.next ≤ slot.held
+      go : (b : Bool) → pick b (busy_sound slot) (all_zero slot) ≡ true → slot.next ≤ slot.held
       go true h =
           leb-true slot.next slot.held
           (and_r (leb 1 slot.next) (leb slot.next slot.held)
-          (and_l (leb 1 slot.next && leb slot.next slot.held) (leb slot.held slotOctets)
-          (and_l (leb 1 slot.next && leb slot.next slot.held && leb slot.held slotOctets) (pairInRange slot.lid slot.number) h)))
-      go false h = omega (arith, eqb-true slot.next 0 (zero-next h))
+          (and_l (leb 1 slot.next && leb slot.next slot.held) (leb slot.held slot_octets)
+          (and_l (leb 1 slot.next && leb slot.next slot.held && leb slot.held slot_octets) (pair_in_range slot.lid slot.number) h)))
+      go false h = omega (arith, eqb-true slot.next 0 (zero_next h))
         where
-          zero-next : allZero slot ≡ true → eqb slot.next 0 ≡ true
-          zero-next h =
+          zero_next : all_zero slot ≡ true → eqb slot.next 0 ≡ true
+          zero_next h =
               and_r (eqb slot.lid 0 && eqb slot.number 0) (eqb slot.next 0)
               (and_l (eqb slot.lid 0 && eqb slot.number 0 && eqb slot.next 0) (eqb slot.held 0)
               (and_l (eqb slot.lid 0 && eqb slot.number 0 && eqb slot.next 0 && eqb slot.held 0) (eqb slot.tick 0) h))
 
   -- all zero is the free slot
-  pub zero_is : allZero slot ≡ true → slot ≡ free
+  pub zero_is : all_zero slot ≡ true → slot ≡ free
   zero_is h =
       let a = and_l (eqb slot.lid 0 && eqb slot.number 0 && eqb slot.next 0 && eqb slot.held 0) (eqb slot.tick 0) h in
       let b = and_l (eqb slot.lid 0 && eqb slot.number 0 && eqb slot.next 0) (eqb slot.held 0) a in
@@ -70,131 +70,131 @@ module _ (slot : Slot) where
 
 -- ---- all slots
 
-pub sound-at : (slots : List Slot) (i : ℕ) → allSound slots ≡ true → soundSlot (get_or slots i free) ≡ true
-unfolding allSound
-sound-at [] i h = refl
-sound-at (slot ∷ slots) zero h = and_l (soundSlot slot) (allSound slots) h
-sound-at (slot ∷ slots) (suc i) h = sound-at slots i (and_r (soundSlot slot) (allSound slots) h)
+pub sound_at : (slots : List Slot) (i : ℕ) → all_sound slots ≡ true → sound_slot (get_or slots i free) ≡ true
+unfolding all_sound
+sound_at [] i h = refl
+sound_at (slot ∷ slots) zero h = and_l (sound_slot slot) (all_sound slots) h
+sound_at (slot ∷ slots) (suc i) h = sound_at slots i (and_r (sound_slot slot) (all_sound slots) h)
 
 -- by the word, then slot by slot
-each-split : (word : ℕ) (slots : List Slot) → eachSound word slots ≡ true → (word ≡ word_of slots) × (allSound slots ≡ true)
-unfolding eachSound word_of allSound
-each-split word [] h = (eqb-true word 0 h, refl)
-each-split word (slot ∷ slots) h =
-    go (each-split (word / 2) slots (and_r (pick (lowBit word) (busySound slot) (allZero slot)) (eachSound (word / 2) slots) h)) (lowBit word) refl
-    (and_l (pick (lowBit word) (busySound slot) (allZero slot)) (eachSound (word / 2) slots) h)
+each_split : (word : ℕ) (slots : List Slot) → each_sound word slots ≡ true → (word ≡ word_of slots) × (all_sound slots ≡ true)
+unfolding each_sound word_of all_sound
+each_split word [] h = (eqb-true word 0 h, refl)
+each_split word (slot ∷ slots) h =
+    go (each_split (word / 2) slots (and_r (pick (low_bit word) (busy_sound slot) (all_zero slot)) (each_sound (word / 2) slots) h)) (low_bit word) refl
+    (and_l (pick (low_bit word) (busy_sound slot) (all_zero slot)) (each_sound (word / 2) slots) h)
   where
-    go : (word / 2 ≡ word_of slots) × (allSound slots ≡ true) → (b : Bool) → lowBit word ≡ b → pick b (busySound slot) (allZero slot) ≡ true
-        → (word ≡ bit_of (isBusy slot) + 2 * word_of slots) × (soundSlot slot && allSound slots ≡ true)
+    go : (word / 2 ≡ word_of slots) × (all_sound slots ≡ true) → (b : Bool) → low_bit word ≡ b → pick b (busy_sound slot) (all_zero slot) ≡ true
+        → (word ≡ bit_of (is_busy slot) + 2 * word_of slots) × (sound_slot slot && all_sound slots ≡ true)
     go rest true e s =
-        let b = busy-is slot s in
+        let b = busy_is slot s in
         (rw b (omega (arith, eqb-true (word % 2) 1 e, rest.0)), rw b (and_i s rest.1))
     go rest false e s =
         let z = zero_is slot s in
         (rw z (omega (arith, eqb-false (word % 2) 1 e, rest.0)), rw z rest.1)
 
 -- slot by slot, then by the word
-each_word : (slots : List Slot) → allSound slots ≡ true → eachSound (word_of slots) slots ≡ true
-unfolding eachSound word_of allSound
+each_word : (slots : List Slot) → all_sound slots ≡ true → each_sound (word_of slots) slots ≡ true
+unfolding each_sound word_of all_sound
 each_word [] h = refl
 each_word (slot ∷ slots) h =
-    let w = half-word (isBusy slot) (word_of slots) in
-    rw (low_bit (isBusy slot) (word_of slots), w.1) (and_i (and_l (soundSlot slot) (allSound slots) h) (each_word slots (and_r (soundSlot slot) (allSound slots) h)))
+    let w = half_word (is_busy slot) (word_of slots) in
+    rw (low_bit_law (is_busy slot) (word_of slots), w.1) (and_i (and_l (sound_slot slot) (all_sound slots) h) (each_word slots (and_r (sound_slot slot) (all_sound slots) h)))
 
 -- the busy slots share no pair
-none-busy : (slot : Slot) (slots : List Slot) → noneShares slot (busySlots (word_of slots) slots) ≡ noneLike slot slots
-unfolding noneShares busySlots word_of noneLike
-none-busy slot [] = refl
-none-busy slot (other ∷ slots) =
-    rw (low_bit (isBusy other) (word_of slots), (half-word (isBusy other) (word_of slots)).1, and_assoc (isBusy other) (eqb other.lid slot.lid) (eqb other.number slot.number))
-    (go (isBusy other) (none-busy slot slots))
+none_busy : (slot : Slot) (slots : List Slot) → none_shares slot (busy_slots (word_of slots) slots) ≡ none_like slot slots
+unfolding none_shares busy_slots word_of none_like
+none_busy slot [] = refl
+none_busy slot (other ∷ slots) =
+    rw (low_bit_law (is_busy other) (word_of slots), (half_word (is_busy other) (word_of slots)).1, and_assoc (is_busy other) (eqb other.lid slot.lid) (eqb other.number slot.number))
+    (go (is_busy other) (none_busy slot slots))
   where
-    go : (b : Bool) → noneShares slot (busySlots (word_of slots) slots) ≡ noneLike slot slots
-        → noneShares slot (pick b (other ∷ busySlots (word_of slots) slots) (busySlots (word_of slots) slots)) ≡ not (b && (eqb other.lid slot.lid && eqb other.number slot.number)) && noneLike slot slots
+    go : (b : Bool) → none_shares slot (busy_slots (word_of slots) slots) ≡ none_like slot slots
+        → none_shares slot (pick b (other ∷ busy_slots (word_of slots) slots) (busy_slots (word_of slots) slots)) ≡ not (b && (eqb other.lid slot.lid && eqb other.number slot.number)) && none_like slot slots
     go true r = ap (λ (c : Bool). not (eqb other.lid slot.lid && eqb other.number slot.number) && c) r
     go false r = r
 
-busy-distinct : (slots : List Slot) → noTwoShare (busySlots (word_of slots) slots) ≡ distinct slots
-unfolding noTwoShare busySlots word_of distinct
-busy-distinct [] = refl
-busy-distinct (slot ∷ slots) =
-    rw (low_bit (isBusy slot) (word_of slots), (half-word (isBusy slot) (word_of slots)).1) (go (isBusy slot) (busy-distinct slots))
+busy_distinct : (slots : List Slot) → no_two_share (busy_slots (word_of slots) slots) ≡ distinct slots
+unfolding no_two_share busy_slots word_of distinct
+busy_distinct [] = refl
+busy_distinct (slot ∷ slots) =
+    rw (low_bit_law (is_busy slot) (word_of slots), (half_word (is_busy slot) (word_of slots)).1) (go (is_busy slot) (busy_distinct slots))
   where
-    go : (b : Bool) → noTwoShare (busySlots (word_of slots) slots) ≡ distinct slots
-        → noTwoShare (pick b (slot ∷ busySlots (word_of slots) slots) (busySlots (word_of slots) slots)) ≡ pick b (noneLike slot slots) true && distinct slots
-    go true r = λ i. none-busy slot slots i && r i
+    go : (b : Bool) → no_two_share (busy_slots (word_of slots) slots) ≡ distinct slots
+        → no_two_share (pick b (slot ∷ busy_slots (word_of slots) slots) (busy_slots (word_of slots) slots)) ≡ pick b (none_like slot slots) true && distinct slots
+    go true r = λ i. none_busy slot slots i && r i
     go false r = r
 
 -- ---- the table
 
--- what the word and the slots of a isSound table are
+-- what the word and the slots of a is_sound table are
 pub record SoundTable (table : Table) : Type 0 where
   pub word : table.busy ≡ word_of table.slots
-  pub each : allSound table.slots ≡ true
+  pub each : all_sound table.slots ≡ true
   pub apart : distinct table.slots ≡ true
 
-pub sound-parts : (table : Table) → isSound table ≡ true → SoundTable table
-unfolding isSound
-sound-parts table h =
-    let s = each-split table.busy table.slots (and_l (eachSound table.busy table.slots) (noTwoShare (busySlots table.busy table.slots)) h) in
-    let d = and_r (eachSound table.busy table.slots) (noTwoShare (busySlots table.busy table.slots)) h in
-    record { word = s.0; each = s.1; apart = sym (ap (λ (w : ℕ). noTwoShare (busySlots w table.slots)) s.0 ∙ busy-distinct table.slots) ∙ d }
+pub sound_parts : (table : Table) → is_sound table ≡ true → SoundTable table
+unfolding is_sound
+sound_parts table h =
+    let s = each_split table.busy table.slots (and_l (each_sound table.busy table.slots) (no_two_share (busy_slots table.busy table.slots)) h) in
+    let d = and_r (each_sound table.busy table.slots) (no_two_share (busy_slots table.busy table.slots)) h in
+    record { word = s.0; each = s.1; apart = sym (ap (λ (w : ℕ). no_two_share (busy_slots w table.slots)) s.0 ∙ busy_distinct table.slots) ∙ d }
 
-pub sound-whole : (table : Table) → SoundTable table → isSound table ≡ true
-unfolding isSound
-sound-whole table s =
-    rw s.word (and_i (each_word table.slots s.each) (busy-distinct table.slots ∙ s.apart))
+pub sound_whole : (table : Table) → SoundTable table → is_sound table ≡ true
+unfolding is_sound
+sound_whole table s =
+    rw s.word (and_i (each_word table.slots s.each) (busy_distinct table.slots ∙ s.apart))
 
 -- the code's test
 abbrev pub fine : List Slot → Bool
-fine slots = allSound slots && distinct slots
+fine slots = all_sound slots && distinct slots
 
-pub sound-is : (table : Table) → eqb table.busy (word_of table.slots) && fine table.slots ≡ isSound table
-sound-is table =
-    same_test (eqb table.busy (word_of table.slots) && fine table.slots) (isSound table)
+pub sound_is : (table : Table) → eqb table.busy (word_of table.slots) && fine table.slots ≡ is_sound table
+sound_is table =
+    same_test (eqb table.busy (word_of table.slots) && fine table.slots) (is_sound table)
     (λ h.
     let f = and_r (eqb table.busy (word_of table.slots)) (fine table.slots) h in
-    sound-whole table (record {
+    sound_whole table (record {
       word = eqb-true table.busy (word_of table.slots) (and_l (eqb table.busy (word_of table.slots)) (fine table.slots) h);
-      each = and_l (allSound table.slots) (distinct table.slots) f;
-      apart = and_r (allSound table.slots) (distinct table.slots) f;
+      each = and_l (all_sound table.slots) (distinct table.slots) f;
+      apart = and_r (all_sound table.slots) (distinct table.slots) f;
     }))
     (λ h.
-    let s = sound-parts table h in
+    let s = sound_parts table h in
     and_i (eq-eqb table.busy (word_of table.slots) s.word) (and_i s.each s.apart))
 
--- no slot of a isSound table holds more than 512 octets
-pub slots_small : (table : Table) → isSound table ≡ true → (k : ℕ) → k < 8 → (get_or table.slots k free).held ≤ 512
-slots_small table h k _ = held_small (get_or table.slots k free) (sound-at table.slots k (sound-parts table h).each)
+-- no slot of a is_sound table holds more than 512 octets
+pub slots_small : (table : Table) → is_sound table ≡ true → (k : ℕ) → k < 8 → (get_or table.slots k free).held ≤ 512
+slots_small table h k _ = held_small (get_or table.slots k free) (sound_at table.slots k (sound_parts table h).each)
 
 -- ---- the loops of the code
 
 module _ (slots : List Slot) (i : ℕ) (h : i < length slots) where
-  pub all-step : allSound (drop i slots) ≡ soundSlot (get_or slots i free) && allSound (drop (i + 1) slots)
-  unfolding allSound
-  all-step = ap allSound (drop-cons slots i free h) ∙ ap (λ (k : ℕ). soundSlot (get_or slots i free) && allSound (drop k slots)) (sym (add-one i))
+  pub all_step : all_sound (drop i slots) ≡ sound_slot (get_or slots i free) && all_sound (drop (i + 1) slots)
+  unfolding all_sound
+  all_step = ap all_sound (drop-cons slots i free h) ∙ ap (λ (k : ℕ). sound_slot (get_or slots i free) && all_sound (drop k slots)) (sym (add-one i))
 
-  pub distinct-step : distinct (drop i slots) ≡ alone (get_or slots i free) (drop (i + 1) slots) && distinct (drop (i + 1) slots)
+  pub distinct_step : distinct (drop i slots) ≡ alone (get_or slots i free) (drop (i + 1) slots) && distinct (drop (i + 1) slots)
   unfolding distinct
-  distinct-step = ap distinct (drop-cons slots i free h) ∙ ap (λ (k : ℕ). alone (get_or slots i free) (drop k slots) && distinct (drop k slots)) (sym (add-one i))
+  distinct_step = ap distinct (drop-cons slots i free h) ∙ ap (λ (k : ℕ). alone (get_or slots i free) (drop k slots) && distinct (drop k slots)) (sym (add-one i))
 
-  pub alone-step : (slot : Slot) → alone slot (drop i slots) ≡ not (bothHold slot (get_or slots i free)) && alone slot (drop (i + 1) slots)
-  unfolding noneLike
-  alone-step slot =
-      ap (alone slot) (drop-cons slots i free h) ∙ go (isBusy slot)
-      ∙ ap (λ (k : ℕ). not (bothHold slot (get_or slots i free)) && alone slot (drop k slots)) (sym (add-one i))
+  pub alone_step : (slot : Slot) → alone slot (drop i slots) ≡ not (both_hold slot (get_or slots i free)) && alone slot (drop (i + 1) slots)
+  unfolding none_like
+  alone_step slot =
+      ap (alone slot) (drop-cons slots i free h) ∙ go (is_busy slot)
+      ∙ ap (λ (k : ℕ). not (both_hold slot (get_or slots i free)) && alone slot (drop k slots)) (sym (add-one i))
     where
       other : Slot
       other = get_or slots i free
 
-      go : (b : Bool) → pick b (not (sharesPair slot other) && noneLike slot (drop (suc i) slots)) true
-          ≡ not (b && sharesPair slot other) && pick b (noneLike slot (drop (suc i) slots)) true
+      go : (b : Bool) → pick b (not (shares_pair slot other) && none_like slot (drop (suc i) slots)) true
+          ≡ not (b && shares_pair slot other) && pick b (none_like slot (drop (suc i) slots)) true
       go true = refl
       go false = refl
 
-pub alone-none : (slot : Slot) (slots : List Slot) (i : ℕ) → length slots ≤ i → alone slot (drop i slots) ≡ true
-unfolding noneLike
-alone-none slot slots i h = ap (alone slot) (drop_of_length-le slots h) ∙ go (isBusy slot)
+pub alone_none : (slot : Slot) (slots : List Slot) (i : ℕ) → length slots ≤ i → alone slot (drop i slots) ≡ true
+unfolding none_like
+alone_none slot slots i h = ap (alone slot) (drop_of_length-le slots h) ∙ go (is_busy slot)
   where
     go : (b : Bool) → pick b true true ≡ true
     go true = refl

@@ -7,8 +7,8 @@ use Rattle.slots.specs.declared.Slot.{Slot}
 use Rattle.slots.specs.declared.Table.{Table}
 use Rattle.slots.specs.declared.SweepAnswer.{SweepAnswer}
 use Rattle.slots.specs.declared.SweepAnswer.TheVariants.{Dropped, Refused}
-use Rattle.slots.specs.Slots.{emptyTable, bit_at, isSound, busyCount, isFull, lowestFree, index_of, table_of, heldFor, heldIn}
-use Rattle.slots.specs.Sweep.{Swept, expiryOf, releaseOf, sweepAnswer, ExpiryGives, ReleaseGives}
+use Rattle.slots.specs.Slots.{empty_table, bit_at, is_sound, busy_count, is_full, lowest_free, index_of, table_of, held_for, held_in}
+use Rattle.slots.specs.Sweep.{Swept, expiry_of, release_of, sweep_answer, ExpiryGives, ReleaseGives}
 
 -- a slot (01: a place) of these numbers
 abbrev pub place : (lid number next held tick : ℕ) → Slot
@@ -84,7 +84,7 @@ pub record Counts : Type 0 where
   pub lowest : ℕ
 
 abbrev pub counted : Table → Counts
-counted table = record { busy = busyCount table; full = isFull table; lowest = lowestFree table }
+counted table = record { busy = busy_count table; full = is_full table; lowest = lowest_free table }
 
 abbrev pub counts : (busy : ℕ) → Bool → (lowest : ℕ) → Counts
 counts busy full lowest = record { busy = busy; full = full; lowest = lowest }
@@ -107,7 +107,7 @@ firsts = made 5 (place 1 2 1 3 10 ∷ zeros ∷ place 1 3 2 5 11 ∷ [])
 
 -- the index of a pair's slot, and the octets that it holds
 abbrev pub found : (lid number : ℕ) → List ℕ
-found lid number = index_of lid number three.slots ∷ heldFor three lid number ∷ []
+found lid number = index_of lid number three.slots ∷ held_for three lid number ∷ []
 
 -- ---- expiry and release
 
@@ -119,15 +119,15 @@ refusing number table = record { answer = refused number; table = table }
 
 abbrev pub sweeps : List Swept
 sweeps =
-    expiryOf 15 4 three
-    ∷ expiryOf 15 6 three
-    ∷ expiryOf 15 0 three
-    ∷ expiryOf 11 (2 ^ 32 - 1) three
-    ∷ expiryOf 15 0 wrong
-    ∷ releaseOf 1 three
-    ∷ releaseOf 0 three
-    ∷ releaseOf (2 ^ 28) three
-    ∷ releaseOf (2 ^ 28) wrong
+    expiry_of 15 4 three
+    ∷ expiry_of 15 6 three
+    ∷ expiry_of 15 0 three
+    ∷ expiry_of 11 (2 ^ 32 - 1) three
+    ∷ expiry_of 15 0 wrong
+    ∷ release_of 1 three
+    ∷ release_of 0 three
+    ∷ release_of (2 ^ 28) three
+    ∷ release_of (2 ^ 28) wrong
     ∷ []
 
 -- an answer's own octets, and a refusal's own number, whichever it is
@@ -137,29 +137,29 @@ answers = Dropped 6 ∷ Refused 2 ∷ Refused 3 ∷ Refused 7 ∷ []
 -- ---- what is proved
 
 pub record SlotCasesHold : Type 0 where
-  pub soundly : map (λ (c : Soundness). isSound c.table) tables ≡ map (λ (c : Soundness). c.is) tables
+  pub soundly : map (λ (c : Soundness). is_sound c.table) tables ≡ map (λ (c : Soundness). c.is) tables
   -- of the words 0, 101, 1111111 and 11111111 in bits
   pub counting :
       map counted (made 0 [] ∷ made 5 [] ∷ made 127 [] ∷ made 255 [] ∷ [])
       ≡ counts 0 false 0 ∷ counts 2 false 1 ∷ counts 7 false 7 ∷ counts 8 true 8 ∷ []
   pub bits : map (bit_at 5) (0 ∷ 1 ∷ 2 ∷ 3 ∷ []) ≡ true ∷ false ∷ true ∷ false ∷ []
-  pub empty : emptyTable ≡ made 0 []
+  pub empty : empty_table ≡ made 0 []
   pub word : table_of three.slots ≡ three
   -- a pair that is not open is past the last, and so is that of a free slot
   pub finding :
       found 1 2 ∷ found 1 3 ∷ found 2 2 ∷ found 2 3 ∷ found 0 0 ∷ []
       ≡ (0 ∷ 3 ∷ []) ∷ (2 ∷ 5 ∷ []) ∷ (3 ∷ 7 ∷ []) ∷ (8 ∷ 0 ∷ []) ∷ (8 ∷ 0 ∷ []) ∷ []
-  pub holding : map heldIn (three ∷ last ∷ wrong ∷ emptyTable ∷ []) ≡ 15 ∷ 7 ∷ 0 ∷ 0 ∷ []
+  pub holding : map held_in (three ∷ last ∷ wrong ∷ empty_table ∷ []) ≡ 15 ∷ 7 ∷ 0 ∷ 0 ∷ []
   -- ages 5, 4 and 3, then 1, 0 and 2^32 - 1
   pub sweeping :
       sweeps
-      ≡ dropping 8 last ∷ dropping 0 three ∷ dropping 15 emptyTable ∷ dropping 7 firsts ∷ refusing 2 wrong
+      ≡ dropping 8 last ∷ dropping 0 three ∷ dropping 15 empty_table ∷ dropping 7 firsts ∷ refusing 2 wrong
       ∷ dropping 8 last ∷ dropping 0 three ∷ refusing 3 three ∷ refusing 2 wrong ∷ []
-  pub answering : map sweepAnswer answers ≡ accepted 6 ∷ refused 2 ∷ refused 3 ∷ refused 7 ∷ []
+  pub answering : map sweep_answer answers ≡ accepted 6 ∷ refused 2 ∷ refused 3 ∷ refused 7 ∷ []
   -- answer and table are those of the call, and no others
   pub expiry : ExpiryGives 15 4 three (record { answer = Dropped 8; table = last })
-  pub not-expiry-of-9 : ExpiryGives 15 4 three (record { answer = Dropped 9; table = last }) → ⊥
-  pub not-expiry-kept : ExpiryGives 15 4 three (record { answer = Dropped 8; table = three }) → ⊥
+  pub not_expiry_of_9 : ExpiryGives 15 4 three (record { answer = Dropped 9; table = last }) → ⊥
+  pub not_expiry_kept : ExpiryGives 15 4 three (record { answer = Dropped 8; table = three }) → ⊥
   pub release : ReleaseGives 1 three (record { answer = Dropped 8; table = last })
-  pub not-release-of-9 : ReleaseGives 1 three (record { answer = Dropped 9; table = last }) → ⊥
-  pub not-release-kept : ReleaseGives 1 three (record { answer = Dropped 8; table = three }) → ⊥
+  pub not_release_of_9 : ReleaseGives 1 three (record { answer = Dropped 9; table = last }) → ⊥
+  pub not_release_kept : ReleaseGives 1 three (record { answer = Dropped 8; table = three }) → ⊥

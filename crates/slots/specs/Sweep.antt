@@ -8,23 +8,23 @@ use Rattle.slots.specs.declared.Table.{Table}
 use Rattle.slots.specs.declared.SweepResult.{SweepResult}
 use Rattle.slots.specs.declared.SweepAnswer.{SweepAnswer}
 use Rattle.slots.specs.declared.SweepAnswer.TheVariants.{Dropped, Refused}
-use Rattle.slots.specs.Slots.{free, isBusy, lidInRange, isSound, table_of}
+use Rattle.slots.specs.Slots.{free, is_busy, lid_in_range, is_sound, table_of}
 
 -- the age: tick minus opening tick modulo 2^32
-abbrev pub ageOf : ℕ → ℕ → ℕ
-ageOf tick opened = (tick + (2 ^ 32 - opened)) % 2 ^ 32
+abbrev pub age_of : ℕ → ℕ → ℕ
+age_of tick opened = (tick + (2 ^ 32 - opened)) % 2 ^ 32
 
 -- the age is at least the limit
-abbrev pub isAged : (tick limit opened : ℕ) → Bool
-isAged tick limit opened = nat_le limit (ageOf tick opened)
+abbrev pub is_aged : (tick limit opened : ℕ) → Bool
+is_aged tick limit opened = nat_le limit (age_of tick opened)
 
 -- a busy slot of that age
-abbrev pub agedSlot : ℕ → ℕ → Slot → Bool
-agedSlot tick limit slot = isBusy slot && isAged tick limit slot.tick
+abbrev pub aged_slot : ℕ → ℕ → Slot → Bool
+aged_slot tick limit slot = is_busy slot && is_aged tick limit slot.tick
 
 -- a busy slot of that LID
-abbrev pub ofLid : ℕ → Slot → Bool
-ofLid lid slot = isBusy slot && slot.lid == lid
+abbrev pub of_lid : ℕ → Slot → Bool
+of_lid lid slot = is_busy slot && slot.lid == lid
 
 -- the slots, those that the test picks freed
 unfoldable pub freed : (Slot → Bool) → List Slot → List Slot
@@ -32,17 +32,17 @@ freed test [] = []
 freed test (slot ∷ slots) = pick (test slot) free slot ∷ freed test slots
 
 -- the octets of the slots that the test picks
-unfoldable pub droppedBy : (Slot → Bool) → List Slot → ℕ
-droppedBy test [] = 0
-droppedBy test (slot ∷ slots) = pick (test slot) slot.held 0 + droppedBy test slots
+unfoldable pub dropped_by : (Slot → Bool) → List Slot → ℕ
+dropped_by test [] = 0
+dropped_by test (slot ∷ slots) = pick (test slot) slot.held 0 + dropped_by test slots
 
 -- ---- the checks, over whether the table is not sound: engine and ledger share them
 
-abbrev pub expiryChecks : Bool → List Check
-expiryChecks notSound = check 2 notSound ∷ []
+abbrev pub expiry_checks : Bool → List Check
+expiry_checks not_sound = check 2 not_sound ∷ []
 
-abbrev pub releaseChecks : Bool → ℕ → List Check
-releaseChecks notSound lid = check 2 notSound ∷ check 3 (not (lidInRange lid)) ∷ []
+abbrev pub release_checks : Bool → ℕ → List Check
+release_checks not_sound lid = check 2 not_sound ∷ check 3 (not (lid_in_range lid)) ∷ []
 
 -- ---- the calls
 
@@ -52,28 +52,28 @@ pub record Swept : Type 0 where
   pub table : Table
 
 -- the table's slots that the test picks are freed if no check holds; a refusal changes nothing
-unfoldable pub sweptBy : List Check → (Slot → Bool) → Table → Swept
-sweptBy checks test table =
+unfoldable pub swept_by : List Check → (Slot → Bool) → Table → Swept
+swept_by checks test table =
     pick (first_of checks == 0)
-    (record { answer = accepted (droppedBy test table.slots); table = table_of (freed test table.slots) })
+    (record { answer = accepted (dropped_by test table.slots); table = table_of (freed test table.slots) })
     (record { answer = refused (first_of checks); table = table })
 
-unfoldable pub expiryOf : ℕ → ℕ → Table → Swept
-expiryOf tick limit table = sweptBy (expiryChecks (not (isSound table))) (agedSlot tick limit) table
+unfoldable pub expiry_of : ℕ → ℕ → Table → Swept
+expiry_of tick limit table = swept_by (expiry_checks (not (is_sound table))) (aged_slot tick limit) table
 
-unfoldable pub releaseOf : ℕ → Table → Swept
-releaseOf lid table = sweptBy (releaseChecks (not (isSound table)) lid) (ofLid lid) table
+unfoldable pub release_of : ℕ → Table → Swept
+release_of lid table = swept_by (release_checks (not (is_sound table)) lid) (of_lid lid) table
 
 -- 01's number and value for each case of the answer
-abbrev pub sweepAnswer : SweepAnswer → Answer ℕ
-sweepAnswer (Dropped octets) = accepted octets
-sweepAnswer (Refused number) = refused number
+abbrev pub sweep_answer : SweepAnswer → Answer ℕ
+sweep_answer (Dropped octets) = accepted octets
+sweep_answer (Refused number) = refused number
 
 -- the contracts
 pub record ExpiryGives (tick limit : ℕ) (table : Table) (r : SweepResult) : Type 0 where
-  pub answer-is : sweepAnswer r.answer ≡ (expiryOf tick limit table).answer
-  pub table_is : r.table ≡ (expiryOf tick limit table).table
+  pub answer_is : sweep_answer r.answer ≡ (expiry_of tick limit table).answer
+  pub table_is : r.table ≡ (expiry_of tick limit table).table
 
 pub record ReleaseGives (lid : ℕ) (table : Table) (r : SweepResult) : Type 0 where
-  pub answer-is : sweepAnswer r.answer ≡ (releaseOf lid table).answer
-  pub table_is : r.table ≡ (releaseOf lid table).table
+  pub answer_is : sweep_answer r.answer ≡ (release_of lid table).answer
+  pub table_is : r.table ≡ (release_of lid table).table

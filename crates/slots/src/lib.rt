@@ -6,7 +6,7 @@ mod sweep;
 mod word;
 
 ghost use Rattle.std.specs.Prelude.{◌≡◌};
-ghost use Rattle.slots.specs.Slots.{free, emptyTable};
+ghost use Rattle.slots.specs.Slots.{free, empty_table};
 
 // The number of slots, and the octets of the store that each has.
 pub const SLOTS: usize = 8;
@@ -67,7 +67,7 @@ pub fn free_slot() -> Slot
 
 // The table in which every slot is free.
 pub fn empty() -> Table
-    ensures { result ≡ emptyTable }
+    ensures { result ≡ empty_table }
 {
     let slots = [free_slot(); 8];
     Table { busy: 0, slots }

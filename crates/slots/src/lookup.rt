@@ -1,6 +1,6 @@
 // Finding a pair's slot, and changing one slot.
 ghost use Rattle.std.specs.Prelude.{◌≡◌, ℕ, ◌<◌, ◌≤◌, get_or, slice_index_or, slice_set};
-ghost use Rattle.slots.specs.Slots.{free, holdsPair, index_of, table_of, heldFor, heldIn, total, held_of};
+ghost use Rattle.slots.specs.Slots.{free, holds_pair, index_of, table_of, held_for, held_in, total, held_of};
 
 use crate::soundness::sound;
 use crate::word::word;
@@ -8,7 +8,7 @@ use crate::{Slot, Table, free_slot};
 
 // Whether the slot is busy with this pair.
 pub(crate) fn holds_pair(slot: Slot, lid: u32, number: u32) -> bool
-    ensures { result ≡ holdsPair lid number slot }
+    ensures { result ≡ holds_pair lid number slot }
 {
     if slot.next == 0 {
         return false;
@@ -58,7 +58,7 @@ pub fn with_slot(table: Table, i: usize, slot: Slot) -> Table
 
 // The octets that the table holds of a pair; 0 if it is not open.
 pub fn held_for(table: Table, lid: u32, number: u8) -> usize
-    ensures { result ≡ heldFor table lid number }
+    ensures { result ≡ held_for table lid number }
 {
     let slot = slot_at(table, find(table, lid, number));
     slot.held as usize
@@ -80,7 +80,7 @@ fn held_sum(slots: [Slot; 8]) -> usize
 
 // The octets that the table holds in all; 0 for a table that is not sound.
 pub fn held_in(table: Table) -> usize
-    ensures { result ≡ heldIn table }
+    ensures { result ≡ held_in table }
 {
     if !sound(table) {
         return 0;

@@ -1,7 +1,7 @@
 // Whether a table is sound: its word agrees, each slot is sound by itself, and no two busy ones share LID and number.
 ghost use Rattle.std.specs.Prelude.{◌≡◌};
-ghost use Rattle.slots.specs.Slots.{lidInRange, allZero, busySound, isSound};
-ghost use Rattle.slots.specs.Model.{soundSlot, allSound, bothHold, distinct};
+ghost use Rattle.slots.specs.Slots.{lid_in_range, all_zero, busy_sound, is_sound};
+ghost use Rattle.slots.specs.Model.{sound_slot, all_sound, both_hold, distinct};
 
 use crate::lookup::holds_pair;
 use crate::word::word;
@@ -9,13 +9,13 @@ use crate::{Slot, Table};
 
 // Whether a LID is one that a slot may hold.
 pub fn lid_in_range(lid: u32) -> bool
-    ensures { result ≡ lidInRange lid }
+    ensures { result ≡ lid_in_range lid }
 {
     lid < crate::LID_BOUND
 }
 
 fn all_zero(slot: Slot) -> bool
-    ensures { result ≡ allZero slot }
+    ensures { result ≡ all_zero slot }
 {
     if slot.lid != 0 {
         return false;
@@ -33,7 +33,7 @@ fn all_zero(slot: Slot) -> bool
 }
 
 fn busy_sound(slot: Slot) -> bool
-    ensures { result ≡ busySound slot }
+    ensures { result ≡ busy_sound slot }
 {
     if slot.next < 1 {
         return false;
@@ -54,7 +54,7 @@ fn busy_sound(slot: Slot) -> bool
 }
 
 fn sound_slot(slot: Slot) -> bool
-    ensures { result ≡ soundSlot slot }
+    ensures { result ≡ sound_slot slot }
 {
     if slot.next != 0 {
         return busy_sound(slot);
@@ -64,7 +64,7 @@ fn sound_slot(slot: Slot) -> bool
 
 // Each slot is sound by itself.
 fn each_sound(slots: [Slot; 8]) -> bool
-    ensures { result ≡ allSound slots }
+    ensures { result ≡ all_sound slots }
 {
     let mut i: usize = 0;
     while i < crate::SLOTS {
@@ -79,7 +79,7 @@ fn each_sound(slots: [Slot; 8]) -> bool
 
 // Whether two slots are busy with the same pair.
 fn share_pair(slot: Slot, other: Slot) -> bool
-    ensures { result ≡ bothHold slot other }
+    ensures { result ≡ both_hold slot other }
 {
     if slot.next == 0 {
         return false;
@@ -109,7 +109,7 @@ fn pairs_differ(slots: [Slot; 8]) -> bool
 
 // Whether the table is sound.
 pub fn sound(table: Table) -> bool
-    ensures { result ≡ isSound table }
+    ensures { result ≡ is_sound table }
 {
     let slots = table.slots;
     if table.busy != word(slots) {

@@ -1,7 +1,7 @@
 // Expiry and release: the slots that a test picks are freed, and their octets reported.
 ghost use Rattle.std.specs.Prelude.{◌≡◌, ℕ, ◌<◌, ◌≤◌, slice_index_or};
 ghost use Rattle.slots.specs.Slots.{free, table_of};
-ghost use Rattle.slots.specs.Sweep.{ageOf, agedSlot, ofLid, freed, droppedBy, ExpiryGives, ReleaseGives};
+ghost use Rattle.slots.specs.Sweep.{age_of, aged_slot, of_lid, freed, dropped_by, ExpiryGives, ReleaseGives};
 ghost use Rattle.slots.specs.Model.{picks};
 
 use crate::soundness::{lid_in_range, sound};
@@ -23,13 +23,13 @@ pub(crate) struct Swept {
 
 // The ticks since opening, modulo 2^32.
 fn age(tick: u32, opened: u32) -> u32
-    ensures { result ≡ ageOf tick opened }
+    ensures { result ≡ age_of tick opened }
 {
     std::num::wrapping_sub_u32(tick, opened)
 }
 
 fn aged(slot: Slot, tick: u32, limit: u32) -> bool
-    ensures { result ≡ agedSlot tick limit slot }
+    ensures { result ≡ aged_slot tick limit slot }
 {
     if slot.next == 0 {
         return false;
@@ -38,7 +38,7 @@ fn aged(slot: Slot, tick: u32, limit: u32) -> bool
 }
 
 fn of_lid(slot: Slot, lid: u32) -> bool
-    ensures { result ≡ ofLid lid slot }
+    ensures { result ≡ of_lid lid slot }
 {
     if slot.next == 0 {
         return false;
@@ -58,7 +58,7 @@ fn picked(sweep: Sweep, slot: Slot) -> bool
 // Frees the slots that the sweep picks, and counts their octets.
 fn free_picked(slots: [Slot; 8], sweep: Sweep) -> Swept
     requires { (k : ℕ) → k < 8 → (slice_index_or slots k free).held ≤ 512 }
-    ensures { (result.slots ≡ freed (picks sweep) slots) × (result.dropped ≡ droppedBy (picks sweep) slots) }
+    ensures { (result.slots ≡ freed (picks sweep) slots) × (result.dropped ≡ dropped_by (picks sweep) slots) }
 {
     let mut left = slots;
     let mut dropped: usize = 0;
@@ -80,7 +80,7 @@ fn free_picked(slots: [Slot; 8], sweep: Sweep) -> Swept
 // The answer and the table of a sweep over a sound table.
 fn swept_table(table: Table, sweep: Sweep) -> SweepResult
     requires { (k : ℕ) → k < 8 → (slice_index_or table.slots k free).held ≤ 512 }
-    ensures { (result.answer ≡ SweepAnswer.Dropped (droppedBy (picks sweep) table.slots)) × (result.table ≡ table_of (freed (picks sweep) table.slots)) }
+    ensures { (result.answer ≡ SweepAnswer.Dropped (dropped_by (picks sweep) table.slots)) × (result.table ≡ table_of (freed (picks sweep) table.slots)) }
 {
     let before = table.slots;
     let swept = free_picked(before, sweep);

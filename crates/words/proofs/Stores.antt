@@ -6,9 +6,9 @@ use native.Mathlib.Omega.{arith}
 use lib.ListN.{set}
 use lib.Seq.{sets}
 
-pub five-stores : (w w1 w2 w3 w4 w5 : List ℕ) (at a b c d e : ℕ) → w1 ≡ set w at a → w2 ≡ set w1 (at + 1) b → w3 ≡ set w2 (at + 2) c
+pub five_stores : (w w1 w2 w3 w4 w5 : List ℕ) (at a b c d e : ℕ) → w1 ≡ set w at a → w2 ≡ set w1 (at + 1) b → w3 ≡ set w2 (at + 2) c
     → w4 ≡ set w3 (at + 3) d → w5 ≡ set w4 (at + 4) e → w5 ≡ sets w at (a ∷ b ∷ c ∷ d ∷ e ∷ [])
-five-stores w w1 w2 w3 w4 w5 at a b c d e p1 p2 p3 p4 p5 =
+five_stores w w1 w2 w3 w4 w5 at a b c d e p1 p2 p3 p4 p5 =
     let k1 : at + 1 ≡ suc at = omega arith in
     let k2 : at + 2 ≡ suc (suc at) = omega arith in
     let k3 : at + 3 ≡ suc (suc (suc at)) = omega arith in

@@ -3,30 +3,30 @@ use Prim.Native.Nat.{ℕ, ◌+◌, ◌*◌, ◌^◌}
 use mathlib.Core.Path.{◌≡◌, refl}
 use native.Mathlib.Omega.{arith}
 use borrow.Author.Tests.{ne_eqb, eqb-false}
-use Rattle.words.specs.Answer.{number_in, kindIn, firstIn, secondIn, SaysRefused}
+use Rattle.words.specs.Answer.{number_in, kind_in, first_in, second_in, SaysRefused}
 use Rattle.words.specs.Items.{words_of}
-use Rattle.words.specs.RowWords.{rowWords}
+use Rattle.words.specs.RowWords.{row_words}
 use Rattle.words.specs.WordCases.{WordCasesHold}
 
 refusal_is : (answer n p : ℕ) → SaysRefused answer n p → answer ≡ n + 2 ^ 16 * p
-unfolding number_in kindIn firstIn secondIn
+unfolding number_in kind_in first_in second_in
 refusal_is answer n p s =
     let a = s.1.number_is in
-    let b = s.1.kind-is in
-    let c = s.1.first-is in
+    let b = s.1.kind_is in
+    let c = s.1.first_is in
     let d = s.1.second_is in
     omega (arith, a, b, c, d)
 
-pub word-cases-hold : WordCasesHold
-unfolding words_of rowWords number_in kindIn firstIn secondIn
-word-cases-hold = record {
+pub word_cases_hold : WordCasesHold
+unfolding words_of row_words number_in kind_in first_in second_in
+word_cases_hold = record {
   packed = refl;
   refused = λ n p h z l. (
     ne_eqb n 0 z,
     record {
       number_is = omega (arith, h, l);
-      kind-is = omega (arith, h, l);
-      first-is = omega (arith, h, l);
+      kind_is = omega (arith, h, l);
+      first_is = omega (arith, h, l);
       second_is = omega (arith, h, l);
     },
   );

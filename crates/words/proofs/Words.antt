@@ -8,22 +8,22 @@ use lib.Dec.{ltb, leb}
 use lib.ListN.{length, get_or, get_or-eq_default}
 use borrow.Author.Tests.{lt-ltb, le-ltb, lt-leb, ltb-true, ltb-false}
 use Rattle.refusals.proofs.Tests.{by_cases}
-use Rattle.words.specs.Word.{narrowTo}
+use Rattle.words.specs.Word.{narrow_to}
 
-pub narrow-small : (bits x : ℕ) → x < 2 ^ bits → x ≡ narrowTo bits x
-unfolding narrowTo
-narrow-small bits x h = rw (lt-ltb x (2 ^ bits) h)
+pub narrow_small : (bits x : ℕ) → x < 2 ^ bits → x ≡ narrow_to bits x
+unfolding narrow_to
+narrow_small bits x h = rw (lt-ltb x (2 ^ bits) h)
 
-pub narrow-large : (bits x : ℕ) → 2 ^ bits ≤ x → 2 ^ bits - 1 ≡ narrowTo bits x
-unfolding narrowTo
-narrow-large bits x h = rw (le-ltb x (2 ^ bits) h)
+pub narrow_large : (bits x : ℕ) → 2 ^ bits ≤ x → 2 ^ bits - 1 ≡ narrow_to bits x
+unfolding narrow_to
+narrow_large bits x h = rw (le-ltb x (2 ^ bits) h)
 
 -- a number that is too large for eight bits is above each bound below 255
-pub narrow-above : (most x : ℕ) → most < 255 → 2 ^ 8 ≤ x → leb (narrowTo 8 x) most ≡ false
-narrow-above most x m h = ap (λ (k : ℕ). leb k most) (sym (narrow-large 8 x h)) ∙ lt-leb 255 most m
+pub narrow_above : (most x : ℕ) → most < 255 → 2 ^ 8 ≤ x → leb (narrow_to 8 x) most ≡ false
+narrow_above most x m h = ap (λ (k : ℕ). leb k most) (sym (narrow_large 8 x h)) ∙ lt-leb 255 most m
 
 -- a word that is not 0 stands inside
-pub word-inside : (words : List ℕ) (at : ℕ) → 0 < get_or words at 0 → at < length words
-word-inside words at h =
+pub word_inside : (words : List ℕ) (at : ℕ) → 0 < get_or words at 0 → at < length words
+word_inside words at h =
     by_cases (ltb at (length words)) (λ t. ltb-true at (length words) t)
     (λ t. absurd (omega (arith, get_or-eq_default words 0 (ltb-false at (length words) t))))

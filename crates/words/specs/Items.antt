@@ -7,9 +7,9 @@ words_of words [] = []
 words_of words (x ∷ xs) = words x ++ words_of words xs
 
 -- n items from a place on, each of so many words
-unfoldable pub itemsFrom : {A : Type 0} → (List ℕ → ℕ → A) → (size n : ℕ) → List ℕ → ℕ → List A
-itemsFrom item size zero words at = []
-itemsFrom item size (suc n) words at = item words at ∷ itemsFrom item size n words (at + size)
+unfoldable pub items_from : {A : Type 0} → (List ℕ → ℕ → A) → (size n : ℕ) → List ℕ → ℕ → List A
+items_from item size zero words at = []
+items_from item size (suc n) words at = item words at ∷ items_from item size n words (at + size)
 
 -- each item has it
 pub data All {A : Type 0} (Has : A → Type 0) : List A → Type 0 where

@@ -4,5 +4,5 @@ use Rattle.std.specs.Prelude.{ℕ, ◌-◌, ◌^◌, ltb}
 use Rattle.refusals.specs.Check.{pick}
 
 -- the number, or the largest of so many bits
-unfoldable pub narrowTo : (bits x : ℕ) → ℕ
-narrowTo bits x = pick (ltb x (2 ^ bits)) x (2 ^ bits - 1)
+unfoldable pub narrow_to : (bits x : ℕ) → ℕ
+narrow_to bits x = pick (ltb x (2 ^ bits)) x (2 ^ bits - 1)

@@ -1,13 +1,13 @@
 // An answer as one number: refusal, kind, and two numbers.
 ghost use Rattle.std.specs.Prelude.{◌≡◌};
-ghost use Rattle.words.specs.Answer.{answerNumber, UnpackingAnswer};
+ghost use Rattle.words.specs.Answer.{answer_number, UnpackingAnswer};
 
 // The two numbers have 24 bits each.
 const BOUND: u64 = 16777216;
 
 // Eight bits of refusal number (0: none), eight of kind, and 24 of each number, from the lowest on.
 pub fn packed(number: u8, kind: u8, first: usize, second: usize) -> u64
-    ensures answer { result ≡ answerNumber number kind first second }
+    ensures answer { result ≡ answer_number number kind first second }
     ensures unpacking { UnpackingAnswer }
 {
     let low = number as u64 + 256 * (kind as u64);

@@ -1,8 +1,8 @@
 // Attribute rows as words, five each: id, area (0 factory, 1 writable), start, length, and whether it is protected (0: not).
 ghost use Rattle.std.specs.Prelude.{◌≡◌, ◌*◌, ◌<◌, ◌^◌, replicate};
-ghost use Rattle.directory.specs.Directory.{noRow};
+ghost use Rattle.directory.specs.Directory.{no_row};
 ghost use Rattle.directory.specs.Gathered.{list_of};
-ghost use Rattle.words.specs.RowWords.{idIn, areaWord, row_at, rowsIn, withPart, UnpackingRows, OtherRowsLength, LargeId, OtherArea, PartPut};
+ghost use Rattle.words.specs.RowWords.{id_in, area_word, row_at, rows_in, with_part, UnpackingRows, OtherRowsLength, LargeId, OtherArea, PartPut};
 
 use crate::word::{narrow, narrow_word, put, word};
 use directory::{Directory, Row};
@@ -15,7 +15,7 @@ const NOT_AN_ID: u8 = 255;
 
 // An id that is narrowed, or none in an area that is none.
 fn id_in(id: u32, area: u32) -> u8
-    ensures { result ≡ idIn id area }
+    ensures { result ≡ id_in id area }
 {
     if area < 2 {
         return narrow(id);
@@ -40,7 +40,7 @@ fn row_in(words: &[u32], i: usize) -> Row
 
 // A directory that is not sound.
 fn not_sound() -> Directory
-    ensures { list_of result ≡ replicate 33 noRow }
+    ensures { list_of result ≡ replicate 33 no_row }
 {
     let mut d = directory::empty();
     d.count = directory::MOST_ROWS + 1;
@@ -49,7 +49,7 @@ fn not_sound() -> Directory
 
 // The directory that the words are; one that is not sound where a word is left over, or there are more than 32 rows.
 pub fn directory_in(words: &[u32]) -> Directory
-    ensures answer { list_of result ≡ rowsIn words.now }
+    ensures answer { list_of result ≡ rows_in words.now }
     ensures unpacking { UnpackingRows }
     ensures other_length { OtherRowsLength }
     ensures large_id { LargeId }
@@ -74,14 +74,14 @@ pub fn directory_in(words: &[u32]) -> Directory
 }
 
 fn area_word(writable: bool) -> u32
-    ensures { result ≡ areaWord writable }
+    ensures { result ≡ area_word writable }
 {
     if writable { 1 } else { 0 }
 }
 
 // Puts a row's area, start and length to the front, where there are three words for them.
 pub fn put_part(row: Row, part: &mut [u32])
-    ensures answer { part.new ≡ withPart row part.old }
+    ensures answer { part.new ≡ with_part row part.old }
     ensures part { PartPut }
 {
     if part.len() < PART_WORDS {

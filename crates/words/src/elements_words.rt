@@ -1,6 +1,6 @@
 // Elements as words, four each: eid, AID, and where the mark starts and how many octets it has.
 ghost use Rattle.std.specs.Prelude.{◌≡◌, ◌≤◌};
-ghost use Rattle.words.specs.ElementWords.{elementAt, elementCount, elementsIn, UnpackingElements, OtherElementsLength, LargeElement};
+ghost use Rattle.words.specs.ElementWords.{element_at, element_count, elements_in, UnpackingElements, OtherElementsLength, LargeElement};
 
 use crate::word::{narrow, word};
 use initialisation::{Element, Elements};
@@ -11,7 +11,7 @@ const MOST_ELEMENTS: usize = 8;
 
 fn element_in(words: &[u32], at: usize) -> Element
     requires { at ≤ 28 }
-    ensures { result ≡ elementAt words.now at }
+    ensures { result ≡ element_at words.now at }
 {
     Element {
         eid: narrow(word(words, at)),
@@ -23,7 +23,7 @@ fn element_in(words: &[u32], at: usize) -> Element
 
 // How many elements there are; 9, which no call takes, where there are more than 8 or a word is left over.
 fn count_in(words: usize) -> usize
-    ensures { result ≡ elementCount words }
+    ensures { result ≡ element_count words }
 {
     if words % ELEMENT_WORDS != 0 {
         return MOST_ELEMENTS + 1;
@@ -37,7 +37,7 @@ fn count_in(words: usize) -> usize
 
 // The elements that the words are.
 pub fn elements_in(words: &[u32]) -> Elements
-    ensures answer { result ≡ elementsIn words.now }
+    ensures answer { result ≡ elements_in words.now }
     ensures unpacking { UnpackingElements }
     ensures other_length { OtherElementsLength }
     ensures large_element { LargeElement }

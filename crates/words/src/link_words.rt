@@ -1,8 +1,8 @@
 // The link as six words: phase (0 sleeping, 1 looking, 2 ready), manufacturer, individual, LID, time, tick.
 ghost use Rattle.std.specs.Prelude.{◌≡◌, [], ◌∷◌};
 ghost use Rattle.std.proofs.lemmas.List.Edits.{sets};
-ghost use Rattle.words.specs.Word.{narrowTo};
-ghost use Rattle.words.specs.LinkWords.{noBeacon, phaseNumber, phaseBeacon, phaseLid, withLink, noPhase, phaseIn, link_in};
+ghost use Rattle.words.specs.Word.{narrow_to};
+ghost use Rattle.words.specs.LinkWords.{no_beacon, phase_number, phase_beacon, phase_lid, with_link, no_phase, phase_in, link_in};
 ghost use Rattle.words.specs.LinkWords.{UnpackingLink, UnpackingPutLink, OtherLinkLength, OtherPhase, FirstLink};
 
 use crate::word::{narrow_word, put, word};
@@ -19,7 +19,7 @@ const READY: u32 = 2;
 const NOT_IN_RANGE: u32 = 4294967295;
 
 fn phase_in(words: &[u32]) -> Phase
-    ensures { result ≡ phaseIn words.now }
+    ensures { result ≡ phase_in words.now }
 {
     if words.len() != LINK_WORDS {
         return out_of_range();
@@ -44,7 +44,7 @@ fn phase_in(words: &[u32]) -> Phase
 }
 
 fn no_beacon() -> Beacon
-    ensures { result ≡ noBeacon }
+    ensures { result ≡ no_beacon }
 {
     Beacon {
         manufacturer: 0,
@@ -53,7 +53,7 @@ fn no_beacon() -> Beacon
 }
 
 fn out_of_range() -> Phase
-    ensures { result ≡ noPhase }
+    ensures { result ≡ no_phase }
 {
     Phase::Ready {
         beacon: no_beacon(),
@@ -79,7 +79,7 @@ pub fn link_in(words: &[u32]) -> Link
 // ---- what a phase has; 0 for what it does not
 
 fn phase_number(phase: Phase) -> u32
-    ensures { result ≡ phaseNumber phase }
+    ensures { result ≡ phase_number phase }
 {
     match phase {
         Phase::Sleeping => SLEEPING,
@@ -89,7 +89,7 @@ fn phase_number(phase: Phase) -> u32
 }
 
 fn phase_beacon(phase: Phase) -> Beacon
-    ensures { result ≡ phaseBeacon phase }
+    ensures { result ≡ phase_beacon phase }
 {
     match phase {
         Phase::Sleeping => no_beacon(),
@@ -99,7 +99,7 @@ fn phase_beacon(phase: Phase) -> Beacon
 }
 
 fn phase_lid(phase: Phase) -> u32
-    ensures { result ≡ phaseLid phase }
+    ensures { result ≡ phase_lid phase }
 {
     match phase {
         Phase::Sleeping => 0,
@@ -109,7 +109,7 @@ fn phase_lid(phase: Phase) -> u32
 }
 
 fn put_six(words: &mut [u32], phase: u32, beacon: Beacon, lid: u32, time: u32, tick: u32)
-    ensures { words.new ≡ sets words.old 0 (phase ∷ narrowTo 32 beacon.manufacturer ∷ narrowTo 32 beacon.individual ∷ lid ∷ time ∷ tick ∷ []) }
+    ensures { words.new ≡ sets words.old 0 (phase ∷ narrow_to 32 beacon.manufacturer ∷ narrow_to 32 beacon.individual ∷ lid ∷ time ∷ tick ∷ []) }
 {
     put(words, 0, phase);
     put(words, 1, narrow_word(beacon.manufacturer));
@@ -121,7 +121,7 @@ fn put_six(words: &mut [u32], phase: u32, beacon: Beacon, lid: u32, time: u32, t
 
 // Puts the link's words, where there are six.
 pub fn put_link(link: Link, words: &mut [u32])
-    ensures answer { words.new ≡ withLink link words.old }
+    ensures answer { words.new ≡ with_link link words.old }
     ensures unpacking { UnpackingPutLink }
 {
     if words.len() != LINK_WORDS {

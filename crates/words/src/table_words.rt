@@ -1,7 +1,7 @@
 // The table of slots as 41 words: the busy word, then LID, number, next counter, octets held and tick of each slot.
 ghost use Rattle.std.specs.Prelude.{◌≡◌, ◌≤◌, length};
 ghost use Rattle.slots.specs.Slots.{word_of};
-ghost use Rattle.words.specs.TableWords.{slotPut, slotIn, slotsIn, tableIn, tableAfter, changeAfter};
+ghost use Rattle.words.specs.TableWords.{slot_put, slot_in, slots_in, table_in, table_after, change_after};
 ghost use Rattle.words.specs.TableWords.{UnpackingTable, UnpackingPutTable, UnpackingChange, OtherTableLength, FirstTable};
 
 use crate::word::{put, word};
@@ -15,7 +15,7 @@ const NOT_SOUND: u32 = 4294967295;
 
 fn slot_in(words: &[u32], at: usize) -> Slot
     requires { at ≤ 36 }
-    ensures { result ≡ slotIn words.now at }
+    ensures { result ≡ slot_in words.now at }
 {
     Slot {
         lid: word(words, at),
@@ -28,7 +28,7 @@ fn slot_in(words: &[u32], at: usize) -> Slot
 
 // The table that the words are; one that is not sound where there are not 41 of them.
 pub fn table_in(words: &[u32]) -> Table
-    ensures answer { result ≡ tableIn words.now }
+    ensures answer { result ≡ table_in words.now }
     ensures unpacking { UnpackingTable }
     ensures other_length { OtherTableLength }
     ensures first_state { FirstTable }
@@ -57,7 +57,7 @@ pub fn table_in(words: &[u32]) -> Table
 // Puts a slot's words from place `at` on, where they fit.
 fn put_slot(words: &mut [u32], at: usize, slot: Slot)
     requires { at ≤ 36 }
-    ensures { words.new ≡ slotPut words.old at slot }
+    ensures { words.new ≡ slot_put words.old at slot }
 {
     put(words, at, slot.lid);
     put(words, at + 1, slot.number);
@@ -68,7 +68,7 @@ fn put_slot(words: &mut [u32], at: usize, slot: Slot)
 
 // Puts the table's words, where there are 41.
 pub fn put_table(table: Table, words: &mut [u32])
-    ensures answer { words.new ≡ tableAfter table words.old }
+    ensures answer { words.new ≡ table_after table words.old }
     ensures unpacking { UnpackingPutTable }
 {
     if words.len() != TABLE_WORDS {
@@ -86,7 +86,7 @@ pub fn put_table(table: Table, words: &mut [u32])
 // The busy word of the slots: bit i is set if the next counter of slot i is not 0.
 fn busy_of(words: &[u32]) -> u32
     requires { length words.now ≡ 41 }
-    ensures { result ≡ word_of (slotsIn words.now) }
+    ensures { result ≡ word_of (slots_in words.now) }
 {
     let mut w: u32 = 0;
     let mut i: usize = 8;
@@ -103,7 +103,7 @@ fn busy_of(words: &[u32]) -> u32
 
 // Puts one slot and the busy word that the slots then have, where there are 41 words.
 pub fn put_change(i: usize, slot: Slot, words: &mut [u32])
-    ensures answer { words.new ≡ changeAfter i slot words.old }
+    ensures answer { words.new ≡ change_after i slot words.old }
     ensures unpacking { UnpackingChange }
 {
     if words.len() != TABLE_WORDS {

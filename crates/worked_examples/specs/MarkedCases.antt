@@ -2,16 +2,16 @@
 -- Assumes nothing.
 use Rattle.std.specs.Prelude.{ℕ, ◌*◌, ◌≡◌, Bool, true, false, List, [], ◌∷◌, map, length, take, replicate}
 use Rattle.refusals.specs.Check.{Answer, refused, accepted}
-use Rattle.header.specs.Header.{Fields, readHeader, headerOctets}
-use Rattle.apdu_format.specs.Reading.{Value, fields as numbers, string, Outcome, refused as refusedAt, message as read, readMessage}
-use Rattle.apdu_format.specs.Writing.{encodedOctets}
+use Rattle.header.specs.Header.{Fields, read_header, header_octets}
+use Rattle.apdu_format.specs.Reading.{Value, fields as numbers, string, Outcome, refused as refused_at, message as read, read_message}
+use Rattle.apdu_format.specs.Writing.{encoded_octets}
 use Rattle.apdu.specs.declared.lists.Row.{Row}
 use Rattle.apdu.specs.declared.records.Message.{Message}
 use Rattle.apdu.specs.declared.records.Message.TheVariants as kind
-use Rattle.apdu.specs.Values.{emptyRow, emptyEntry}
+use Rattle.apdu.specs.Values.{empty_row, empty_entry}
 use Rattle.apdu_reading.specs.declared.front.Answer.TheVariants as answer
 use Rattle.apdu_reading.specs.declared.front.Reading.{Reading}
-use Rattle.apdu_reading.specs.Answers.{outcomeOf}
+use Rattle.apdu_reading.specs.Answers.{outcome_of}
 use Rattle.attributes.specs.Serving as serving
 use Rattle.attributes.specs.Serving.{Tag, Effect, requested}
 
@@ -19,40 +19,40 @@ use Rattle.attributes.specs.Serving.{Tag, Effect, requested}
 pub data Given : Type 0 where
   header : (octets : List ℕ) → Given
   message : (octets : List ℕ) → Given
-  request : (tag : Tag) (record-read : Reading) (octets : List ℕ) → Given
+  request : (tag : Tag) (record_read : Reading) (octets : List ℕ) → Given
 
 -- what it gives: a refusal's number, with a message's position; last mark, message number, counter and size of a header; or what a message's
 -- components hold and the bit place behind it. With what is read stand the octets of writing it again. Of a request: what its octets are read as, what its
 -- record says, the reply, and the writable area after it.
 pub data Result : Type 0 where
   refusal : (number : ℕ) → Result
-  refusalAt : (number position : ℕ) → Result
+  refusal_at : (number position : ℕ) → Result
   fields : (last : Bool) (number counter size : ℕ) (written : List ℕ) → Result
   values : (components : List Value) (end : ℕ) (written : List ℕ) → Result
-  reply : (octets-read record-read : Outcome) (octets writable : List ℕ) → Result
+  reply : (octets-read record_read : Outcome) (octets writable : List ℕ) → Result
 
-unfoldable pub headerResult : Answer Fields → Result
-headerResult (refused k) = refusal k
-headerResult (accepted f) = fields f.header.last f.header.number f.header.counter f.size (headerOctets f.header)
+unfoldable pub header_result : Answer Fields → Result
+header_result (refused k) = refusal k
+header_result (accepted f) = fields f.header.last f.header.number f.header.counter f.size (header_octets f.header)
 
-unfoldable pub messageResult : Outcome → Result
-messageResult (refusedAt k p) = refusalAt k p
-messageResult (read vs end) = values vs end (encodedOctets vs)
+unfoldable pub message_result : Outcome → Result
+message_result (refused_at k p) = refusal_at k p
+message_result (read vs end) = values vs end (encoded_octets vs)
 
 -- the octets of a reply at the output's front
-unfoldable pub sentOf : serving.Outcome → List ℕ → List ℕ
-sentOf (serving.refused k) out = []
-sentOf (serving.refusedAt k p) out = []
-sentOf serving.silent out = []
-sentOf (serving.replied n) out = take n out
+unfoldable pub sent_of : serving.Outcome → List ℕ → List ℕ
+sent_of (serving.refused k) out = []
+sent_of (serving.refused_at k p) out = []
+sent_of serving.silent out = []
+sent_of (serving.replied n) out = take n out
 
-unfoldable pub requestResult : List ℕ → Reading → Effect → Result
-requestResult s r e = reply (readMessage s) (outcomeOf s r) (sentOf e.outcome e.output) e.writable
+unfoldable pub request_result : List ℕ → Reading → Effect → Result
+request_result s r e = reply (read_message s) (outcome_of s r) (sent_of e.outcome e.output) e.writable
 
 unfoldable pub result : Given → Result
-result (header s) = headerResult (readHeader s)
-result (message s) = messageResult (readMessage s)
-result (request tag r s) = requestResult s r (requested tag s r (replicate 512 0))
+result (header s) = header_result (read_header s)
+result (message s) = message_result (read_message s)
+result (request tag r s) = request_result s r (requested tag s r (replicate 512 0))
 
 pub record Case : Type 0 where
   pub given : Given
@@ -74,13 +74,13 @@ abbrev pub answers : Tag → List ℕ → Message → List Row → List Value �
 answers tag s m rows vs octets writable =
     let end = 8 * length s in
     record {
-      given = request tag (record { answer = answer.Message m; end = end; lists = record { entries = replicate 32 emptyEntry; rows = rows } }) s;
+      given = request tag (record { answer = answer.Message m; end = end; lists = record { entries = replicate 32 empty_entry; rows = rows } }) s;
       gives = reply (read vs end) (read vs end) octets writable;
     }
 
 -- a tag with eid 1 and attribute 5 of two octets, in the factory area or in the writable one
-abbrev pub tagWith : Bool → List ℕ → List ℕ → Tag
-tagWith w factory writable =
+abbrev pub tag_with : Bool → List ℕ → List ℕ → Tag
+tag_with w factory writable =
     record {
       eid = 1;
       credentials = [];
@@ -90,8 +90,8 @@ tagWith w factory writable =
     }
 
 -- GET of one id
-abbrev pub getOne : Message
-getOne =
+abbrev pub get_one : Message
+get_one =
     kind.GetRequest (record {
       fill = 0;
       eid = 1;
@@ -122,18 +122,18 @@ set_one =
     })
 
 -- bits of the leading part, a number 0..127 behind its extension bit, and an empty octet string at a place
-abbrev pub bitsAre : List ℕ → Value
-bitsAre fs = numbers fs
+abbrev pub bits_are : List ℕ → Value
+bits_are fs = numbers fs
 
 abbrev pub number : ℕ → Value
 number n = numbers (0 ∷ n ∷ [])
 
-abbrev pub emptyString : ℕ → List Value
-emptyString at = numbers (0 ∷ []) ∷ numbers (0 ∷ []) ∷ string at [] ∷ []
+abbrev pub empty_string : ℕ → List Value
+empty_string at = numbers (0 ∷ []) ∷ numbers (0 ∷ []) ∷ string at [] ∷ []
 
 -- GET of one id: choice 6, an id list, eid 1
 abbrev pub gotten : ℕ → List Value
-gotten id = bitsAre (6 ∷ []) ∷ bitsAre (0 ∷ 0 ∷ 1 ∷ 0 ∷ []) ∷ number 1 ∷ number 1 ∷ string 24 [] ∷ number id ∷ []
+gotten id = bits_are (6 ∷ []) ∷ bits_are (0 ∷ 0 ∷ 1 ∷ 0 ∷ []) ∷ number 1 ∷ number 1 ∷ string 24 [] ∷ number id ∷ []
 
 abbrev pub marked : List Case
 marked =
@@ -145,16 +145,16 @@ marked =
     ∷ reads (0x10 ∷ 0x08 ∷ 0x00 ∷ []) false 2 512 3
     ∷ refuses (0x10 ∷ 0x07 ∷ []) 5
     -- Messages: ECHO request (choice 0; parameter present, mode 1; eid 0, action 15, an octet string), its response, release
-    ∷ decodes (0x05 ∷ 0x00 ∷ 0x0F ∷ 0x02 ∷ 0x00 ∷ []) (bitsAre (0 ∷ []) ∷ bitsAre (0 ∷ 1 ∷ 0 ∷ 1 ∷ []) ∷ number 0 ∷ number 15 ∷ number 2 ∷ emptyString 40) 40
-    ∷ decodes (0x14 ∷ 0x00 ∷ 0x02 ∷ 0x00 ∷ []) (bitsAre (1 ∷ []) ∷ bitsAre (0 ∷ 1 ∷ 0 ∷ 0 ∷ []) ∷ number 0 ∷ number 2 ∷ emptyString 32) 32
-    ∷ decodes (0x20 ∷ 0x00 ∷ 0x00 ∷ []) (bitsAre (2 ∷ []) ∷ bitsAre (0 ∷ 0 ∷ 0 ∷ 0 ∷ []) ∷ number 0 ∷ number 0 ∷ []) 24
+    ∷ decodes (0x05 ∷ 0x00 ∷ 0x0F ∷ 0x02 ∷ 0x00 ∷ []) (bits_are (0 ∷ []) ∷ bits_are (0 ∷ 1 ∷ 0 ∷ 1 ∷ []) ∷ number 0 ∷ number 15 ∷ number 2 ∷ empty_string 40) 40
+    ∷ decodes (0x14 ∷ 0x00 ∷ 0x02 ∷ 0x00 ∷ []) (bits_are (1 ∷ []) ∷ bits_are (0 ∷ 1 ∷ 0 ∷ 0 ∷ []) ∷ number 0 ∷ number 2 ∷ empty_string 32) 32
+    ∷ decodes (0x20 ∷ 0x00 ∷ 0x00 ∷ []) (bits_are (2 ∷ []) ∷ bits_are (0 ∷ 0 ∷ 0 ∷ 0 ∷ []) ∷ number 0 ∷ number 0 ∷ []) 24
     -- Requests: GET of attribute 5, which holds 41 42; of 9, which is unknown; SET of 5
-    ∷ answers (tagWith false (0x41 ∷ 0x42 ∷ []) []) (0x62 ∷ 0x01 ∷ 0x01 ∷ 0x05 ∷ []) getOne (replicate 32 emptyRow) (gotten 5)
+    ∷ answers (tag_with false (0x41 ∷ 0x42 ∷ []) []) (0x62 ∷ 0x01 ∷ 0x01 ∷ 0x05 ∷ []) get_one (replicate 32 empty_row) (gotten 5)
     (0x74 ∷ 0x01 ∷ 0x01 ∷ 0x05 ∷ 0x02 ∷ 0x02 ∷ 0x41 ∷ 0x42 ∷ []) []
-    ∷ answers (tagWith false (0x41 ∷ 0x42 ∷ []) []) (0x62 ∷ 0x01 ∷ 0x01 ∷ 0x09 ∷ []) getOne (replicate 32 emptyRow) (gotten 9) (0x72 ∷ 0x01 ∷ 0x02 ∷ []) []
-    ∷ answers (tagWith true [] (0x00 ∷ 0x00 ∷ [])) (0x41 ∷ 0x01 ∷ 0x01 ∷ 0x05 ∷ 0x02 ∷ 0x02 ∷ 0x41 ∷ 0x42 ∷ []) set_one
-    (record { id = 5; kind = 2; n = 2; start = 48 } ∷ replicate 31 emptyRow)
-    (bitsAre (4 ∷ []) ∷ bitsAre (0 ∷ 0 ∷ 0 ∷ 1 ∷ []) ∷ number 1 ∷ number 1 ∷ number 5 ∷ number 2 ∷ numbers (0 ∷ []) ∷ numbers (2 ∷ [])
+    ∷ answers (tag_with false (0x41 ∷ 0x42 ∷ []) []) (0x62 ∷ 0x01 ∷ 0x01 ∷ 0x09 ∷ []) get_one (replicate 32 empty_row) (gotten 9) (0x72 ∷ 0x01 ∷ 0x02 ∷ []) []
+    ∷ answers (tag_with true [] (0x00 ∷ 0x00 ∷ [])) (0x41 ∷ 0x01 ∷ 0x01 ∷ 0x05 ∷ 0x02 ∷ 0x02 ∷ 0x41 ∷ 0x42 ∷ []) set_one
+    (record { id = 5; kind = 2; n = 2; start = 48 } ∷ replicate 31 empty_row)
+    (bits_are (4 ∷ []) ∷ bits_are (0 ∷ 0 ∷ 0 ∷ 1 ∷ []) ∷ number 1 ∷ number 1 ∷ number 5 ∷ number 2 ∷ numbers (0 ∷ []) ∷ numbers (2 ∷ [])
     ∷ string 48 (0 ∷ 1 ∷ 0 ∷ 0 ∷ 0 ∷ 0 ∷ 0 ∷ 1 ∷ 0 ∷ 1 ∷ 0 ∷ 0 ∷ 0 ∷ 0 ∷ 1 ∷ 0 ∷ []) ∷ [])
     (0x54 ∷ 0x01 ∷ 0x00 ∷ []) (0x41 ∷ 0x42 ∷ [])
     ∷ []

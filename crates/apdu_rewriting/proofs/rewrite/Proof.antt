@@ -1,7 +1,7 @@
 -- Reading refuses, or what was read is written; the round trips hold of every record.
 -- Assumes nothing.
-use Rattle.bits.proofs.Laws.{octets-known}
-use Rattle.apdu_rewriting.proofs.Rewriting.{reading-refuses, writes-back, with-round-trips}
+use Rattle.bits.proofs.Laws.{octets_known}
+use Rattle.apdu_rewriting.proofs.Rewriting.{reading_refuses, writes_back, with_round_trips}
 use borrow.Author.Rules.{rules}
 use Rattle.apdu_rewriting.proofs.rewrite.Statement.{statement}
 use Rattle.apdu_rewriting.proofs.rewrite.Tie as tie
@@ -19,13 +19,13 @@ write-requires : tie.Need-write-requires
 write-requires c κs = tt
 
 returns : tie.Need-returns
-returns c = with-round-trips (reading-refuses _ _ _ c.before.before.before.read.ensures.0 _ _ c.before.answer.given.1)
+returns c = with_round_trips (reading_refuses _ _ _ c.before.before.before.read.ensures.0 _ _ c.before.answer.given.1)
 
 same_length : tie.Need-same-length
 same_length c = search rules
 
 returns-2 : tie.Need-returns-2
-returns-2 c = with-round-trips (writes-back _ _ _ c.before.before.before.before.before.before.before.before.before.before.read.ensures.0 (octets-known _ c.before.before.before.before.before.before.before.before.before.before.before.before.shared-slice-known.given) _ c.before.before.before.before.before.before.before.before.answer2.given.1 _ c.before.before.write.ensures)
+returns-2 c = with_round_trips (writes_back _ _ _ c.before.before.before.before.before.before.before.before.before.before.read.ensures.0 (octets_known _ c.before.before.before.before.before.before.before.before.before.before.before.before.shared-slice-known.given) _ c.before.before.before.before.before.before.before.before.answer2.given.1 _ c.before.before.write.ensures)
 
 pub rewrite-spec : {M : Type 1} → statement M
 rewrite-spec = tie.close (tie.spec read-requires enum-known-answer enum-known-answer-2 write-requires returns same_length returns-2)

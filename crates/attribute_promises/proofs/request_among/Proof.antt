@@ -3,9 +3,9 @@
 use mathlib.Core.Path.{refl}
 use native.Mathlib.Omega.{arith}
 use Rattle.directory.proofs.Looking.{too_many}
-use Rattle.attributes.proofs.Outcomes.{answered-1, answered-26}
-use Rattle.attribute_promises.proofs.Among.{among-answered}
-use Rattle.attribute_promises.proofs.Cited.{with-promises}
+use Rattle.attributes.proofs.Outcomes.{answered_1, answered_26}
+use Rattle.attribute_promises.proofs.Among.{among_answered}
+use Rattle.attribute_promises.proofs.Cited.{with_promises}
 use borrow.Author.Rules.{rules}
 use Rattle.attribute_promises.proofs.request_among.Statement.{statement}
 use Rattle.attribute_promises.proofs.request_among.Tie as tie
@@ -14,10 +14,10 @@ read-requires : tie.Need-read-requires
 read-requires c κs = search rules
 
 returns : tie.Need-returns
-returns c = with-promises (answered-1 _ _ _ _ c.before.read.ensures.0 c.if2.true)
+returns c = with_promises (answered_1 _ _ _ _ c.before.read.ensures.0 c.if2.true)
 
 returns-2 : tie.Need-returns-2
-returns-2 c = with-promises (answered-26 _ _ _ _ c.before.read.ensures.0 c.if2.false (too_many _ _ _ (omega arith)) refl)
+returns-2 c = with_promises (answered_26 _ _ _ _ c.before.read.ensures.0 c.if2.false (too_many _ _ _ (omega arith)) refl)
 
 request-lent-requires : tie.Need-request-lent-requires
 request-lent-requires c κs = search rules
@@ -29,7 +29,7 @@ same-length-2 : tie.Need-same-length-2
 same-length-2 c = search rules
 
 returns-3 : tie.Need-returns-3
-returns-3 c = with-promises (among-answered _ _ _ _ _ _ _ _ _ _ _ c.before.before.before.before.request-lent.ensures c.before.before.before.before.before.before.before.if1.false)
+returns-3 c = with_promises (among_answered _ _ _ _ _ _ _ _ _ _ _ c.before.before.before.before.request-lent.ensures c.before.before.before.before.before.before.before.if1.false)
 
 pub request-among-spec : {M : Type 1} → statement M
 request-among-spec =

@@ -45,7 +45,7 @@ use denote.Triple.Clauses.{ensured, lasts}
 use Rattle.directory.specs.declared.Row.{Row}
 use Rattle.directory.specs.contracts.Row as T
 use Rattle.directory.proofs.Row.TheLaws as T'
-use Rattle.directory.proofs.Lending.{rowArray, front, frontOwn, lentRows, keptRows, lends-front, front-back}
+use Rattle.directory.proofs.Lending.{row_array, front, front_own, lent_rows, kept_rows, lends_front, front_back}
 use Rattle.attributes.specs.declared.answers.RequestAnswer.{RequestAnswer}
 use Rattle.attributes.specs.Serving.{Answered}
 use Rattle.attributes.specs.Inside.{tag_of}
@@ -193,8 +193,8 @@ module _ {M : Type 1} {𝓤 : Ura M} (𝓛 : Logic 𝓤) (mem : Memory → SProp
         move ! (33 ∷ []) $ fsplit ! $ move ! (1 ∷ []) $ fsplit ! $ move ! (1 ∷ []) $ fsplit ! $ move ! (1 ∷ []) $ fsplit ! $ move ! (1 ∷ []) $ fsplit ! $ drop ! $
         -- [the areas; the rows; credentials; eid; s; _15; …]: the first rows are lent
         lft_new ! tt (λ α. move ! (18 ∷ 2 ∷ []) $
-        use2 𝓛 (later (some (λ (γ : GName). ‵ (frontOwn 𝓛 (α ∷ []) l9 n rows long γ) ⊛ ‵ (flent (α ∷ []) (lentRows 𝓛 (α ∷ []) l9 n rows long)) ⊛ ‵ (keptRows 𝓛 (α ∷ []) l9 n rows long))))
-        (lends-front 𝓛 (α ∷ []) l9 n rows long vr) $ await ! tt $ pick ! (λ γ. split ! $
+        use2 𝓛 (later (some (λ (γ : GName). ‵ (front_own 𝓛 (α ∷ []) l9 n rows long γ) ⊛ ‵ (flent (α ∷ []) (lent_rows 𝓛 (α ∷ []) l9 n rows long)) ⊛ ‵ (kept_rows 𝓛 (α ∷ []) l9 n rows long))))
+        (lends_front 𝓛 (α ∷ []) l9 n rows long vr) $ await ! tt $ pick ! (λ γ. split ! $
         -- [the slice; what is kept; its token; the areas; credentials; eid; s; _15; …; _0; …; the tokens]
         move ! (0 ∷ 3 ∷ []) $ fjoin ! $ move ! (3 ∷ 0 ∷ []) $ fjoin ! $ move ! (3 ∷ 0 ∷ []) $ fjoin ! $ move ! (3 ∷ 0 ∷ []) $ fjoin ! $
         -- [all that is asked; what is kept; its token; _15; …; the tokens]
@@ -210,7 +210,7 @@ module _ {M : Type 1} {𝓤 : Ura M} (𝓛 : Logic 𝓤) (mem : Memory → SProp
         -- [out; true; writable; the tokens and the result; what is kept; _15; …]
         move ! (3 ∷ []) $ split ! $ split ! $ move ! (1 ∷ []) $ split ! $ move ! (1 ∷ []) $ split ! $
         -- [the token of the rows; κ₂ ..; κ₁; κ₀; the result; out; true; writable; what is kept; _15; …]: the lifetime ends, and the array is room again
-        lft_end ! tt $ move ! (0 ∷ 8 ∷ []) $ use2 𝓛 (later (‵ (froom rowArray l9 0))) (front-back 𝓛 (α ∷ []) l9 n rows long) $ await ! tt $
+        lft_end ! tt $ move ! (0 ∷ 8 ∷ []) $ use2 𝓛 (later (‵ (froom row_array l9 0))) (front_back 𝓛 (α ∷ []) l9 n rows long) $ await ! tt $
         move ! (2 ∷ 1 ∷ []) $ join ! $ move ! (2 ∷ 0 ∷ []) $ join ! $ move ! (2 ∷ []) $
         -- [the result; the tokens; room for _9; out; true; writable; _15; …; _0; …]
         peeks ! R.the_row (Is R.the_row) (shows 𝓛 R.the_row) r (u ∷ []) (λ is.

@@ -49,7 +49,7 @@ use Rattle.directory.proofs.gather.Met as gather-thm
 use Rattle.attributes.specs.declared.answers.RequestAnswer.{RequestAnswer}
 use Rattle.attributes.specs.Serving.{Answered}
 use Rattle.attributes.specs.Inside.{tag_of}
-use Rattle.attributes.proofs.Outcomes.{gathered-answered}
+use Rattle.attributes.proofs.Outcomes.{gathered_answered}
 use Rattle.attributes.specs.contracts.answers.RequestAnswer as R
 use Rattle.attributes.proofs.answers.RequestAnswer.TheLaws as R'
 use Rattle.attributes.specs.contracts.calls.request_in as inner
@@ -244,7 +244,7 @@ module _ {M : Type 1} {𝓤 : Ura M} (𝓛 : Logic 𝓤) (mem : Memory → SProp
         returns ! (look ! 32 refl) $ forget ! 8 refl $ forget ! 10 refl $ forget ! 12 refl $ forget ! 14 refl $ forget ! 16 refl $ forget ! 18 refl $ forget ! 20 refl $ forget ! 22 refl $ forget ! 24 refl $ forget ! 26 refl $ forget ! 28 refl $ forget ! 30 refl $ forget ! 32 refl $
         move ! (32 ∷ 33 ∷ []) $ free1 ! $ move ! (30 ∷ 31 ∷ []) $ free1 ! $ move ! (28 ∷ 29 ∷ []) $ free1 ! $ move ! (26 ∷ 27 ∷ []) $ free1 ! $ move ! (24 ∷ 25 ∷ []) $ free1 ! $ move ! (22 ∷ 23 ∷ []) $ free1 ! $ move ! (20 ∷ 21 ∷ []) $ free1 ! $ move ! (18 ∷ 19 ∷ []) $ free1 ! $ move ! (16 ∷ 17 ∷ []) $ free1 ! $ move ! (14 ∷ 15 ∷ []) $ free1 ! $ move ! (12 ∷ 13 ∷ []) $ free1 ! $ move ! (10 ∷ 11 ∷ []) $ free1 ! $ move ! (8 ∷ 9 ∷ []) $ free1 ! $ free0 ! $
         keep ! (0 ∷ 1 ∷ 5 ∷ 4 ∷ 2 ∷ 6 ∷ 7 ∷ []) $
-        by ! (exits r u' zs.1.1.1.1.1.0 zs.1.1.1.1.1.1.0 (gathered-answered e k.now x.now f.now ws s.now os r _ _ (subst (λ (d' : Directory). Said d' r zs) is-d said)) lw lo)))))))))))))))))))))))))
+        by ! (exits r u' zs.1.1.1.1.1.0 zs.1.1.1.1.1.1.0 (gathered_answered e k.now x.now f.now ws s.now os r _ _ (subst (λ (d' : Directory). Said d' r zs) is-d said)) lw lo)))))))))))))))))))))))))
 
 module _ {M : Type 1} {𝓤 : Ura M} (𝓛 : Logic 𝓤) (mem : Memory → SProp 𝓤) (run : Routine → Fun 𝓤) (𝓣 : Tables 𝓤 𝓛.H)
     (known-gather : Triple 𝓤 (𝓣.C #directory·gather) (Gather 𝓛 mem run)) (known-inner : Triple 𝓤 (𝓣.C #inner) (Inner 𝓛 mem run)) where

@@ -4,26 +4,26 @@ use native.Mathlib.Omega.{arith}
 use Prim.Native.Nat.{◌≤◌, ◌-◌, ◌+◌}
 use mathlib.Core.Path.{◌≡◌, refl, sym, ◌∙◌}
 use lib.ListN.{length, take}
-use Rattle.directory.specs.Directory.{apartFrom, allApart}
-use Rattle.directory.proofs.Rows.{rows-length, from, apart_next, apart-clash, apart_none, all-next, all-clash, all_none}
+use Rattle.directory.specs.Directory.{apart_from, all_apart}
+use Rattle.directory.proofs.Rows.{rows_length, from, apart_next, apart_clash, apart_none, all_next, all_clash, all_none}
 use Rattle.directory.proofs.all_apart.Statement.{statement}
 use Rattle.directory.proofs.all_apart.Tie as tie
 
 abbrev invariant-loop2 : tie.invariant-loop2
-invariant-loop2 d n i row j₀ j = (j ≤ n) × (apartFrom row (from d.rows n (i + 1)) ≡ apartFrom row (from d.rows n j))
+invariant-loop2 d n i row j₀ j = (j ≤ n) × (apart_from row (from d.rows n (i + 1)) ≡ apart_from row (from d.rows n j))
 
 abbrev decreases-loop2 : tie.decreases-loop2
 decreases-loop2 d n i row j₀ j = n - j
 
 abbrev invariant-loop : tie.invariant-loop
-invariant-loop d n i₀ i = (i ≤ n) × (allApart (take n d.rows) ≡ allApart (from d.rows n i))
+invariant-loop d n i₀ i = (i ≤ n) × (all_apart (take n d.rows) ≡ all_apart (from d.rows n i))
 
 abbrev decreases-loop : tie.decreases-loop
 decreases-loop d n i₀ i = n - i
 
 -- the array has the rows that are counted
 there : (c : tie.At-loop invariant-loop2 decreases-loop2 invariant-loop decreases-loop) → c.before.args.t1.count ≤ length c.before.args.t1.rows
-there c = omega (arith, rows-length c.before.args.t1 _ c.before.well-formed.0)
+there c = omega (arith, rows_length c.before.args.t1 _ c.before.well-formed.0)
 
 loop-holds : tie.Need-loop-init invariant-loop2 decreases-loop2 invariant-loop decreases-loop
 loop-holds c = (omega arith, refl)
@@ -53,7 +53,7 @@ returns : tie.Need-returns invariant-loop2 decreases-loop2 invariant-loop decrea
 returns c =
     let b = c.before.before.before.before in
     let a = b.before.before.before in
-    sym (a.loop.invariant.1 ∙ all-clash _ _ (there a) a.loop.i (omega arith) (b.loop2.invariant.1 ∙ apart-clash _ _ (there a) _ b.loop2.j (omega arith) c.before.clash.ensures c.if1.true))
+    sym (a.loop.invariant.1 ∙ all_clash _ _ (there a) a.loop.i (omega arith) (b.loop2.invariant.1 ∙ apart_clash _ _ (there a) _ b.loop2.j (omega arith) c.before.clash.ensures c.if1.true))
 
 add-j-2 : tie.Need-overflow-add-j-2 invariant-loop2 decreases-loop2 invariant-loop decreases-loop
 add-j-2 c = omega arith
@@ -77,7 +77,7 @@ loop-again : tie.Need-loop-preserved invariant-loop2 decreases-loop2 invariant-l
 loop-again c =
     let b = c.before in
     let a = b.before.before.before in
-    (omega arith, a.loop.invariant.1 ∙ all-next _ _ (there a) a.loop.i (omega arith) (b.loop2.invariant.1 ∙ apart_none _ _ (there a) _ b.loop2.j (omega arith)))
+    (omega arith, a.loop.invariant.1 ∙ all_next _ _ (there a) a.loop.i (omega arith) (b.loop2.invariant.1 ∙ apart_none _ _ (there a) _ b.loop2.j (omega arith)))
 
 returns-2 : tie.Need-returns-2 invariant-loop2 decreases-loop2 invariant-loop decreases-loop
 returns-2 c = sym (c.before.loop.invariant.1 ∙ all_none _ _ (there c.before) c.before.loop.i (omega arith))

@@ -3,20 +3,20 @@ use native.Mathlib.Omega.{arith}
 use Prim.Native.Nat.{◌≤◌, ◌-◌}
 use mathlib.Core.Path.{◌≡◌, refl, sym, ◌∙◌}
 use lib.ListN.{length, take}
-use Rattle.directory.specs.Directory.{eachSound}
-use Rattle.directory.proofs.Rows.{rows-length, from, each_next, each-bad, each_none}
+use Rattle.directory.specs.Directory.{each_sound}
+use Rattle.directory.proofs.Rows.{rows_length, from, each_next, each_bad, each_none}
 use Rattle.directory.proofs.each_sound.Statement.{statement}
 use Rattle.directory.proofs.each_sound.Tie as tie
 
 abbrev invariant-loop : tie.invariant-loop
-invariant-loop factory writable d n i₀ i = (i ≤ n) × (eachSound factory writable (take n d.rows) ≡ eachSound factory writable (from d.rows n i))
+invariant-loop factory writable d n i₀ i = (i ≤ n) × (each_sound factory writable (take n d.rows) ≡ each_sound factory writable (from d.rows n i))
 
 abbrev decreases-loop : tie.decreases-loop
 decreases-loop factory writable d n i₀ i = n - i
 
 -- the array has the rows that are counted
 there : (c : tie.At-loop invariant-loop decreases-loop) → c.before.args.t1.count ≤ length c.before.args.t1.rows
-there c = omega (arith, rows-length c.before.args.t1 _ c.before.well-formed.0)
+there c = omega (arith, rows_length c.before.args.t1 _ c.before.well-formed.0)
 
 loop-holds : tie.Need-loop-init invariant-loop decreases-loop
 loop-holds c = (omega arith, refl)
@@ -33,7 +33,7 @@ row-sound-requires c κs = tt
 returns : tie.Need-returns invariant-loop decreases-loop
 returns c =
     let a = c.before.before.before.before in
-    sym (a.loop.invariant.1 ∙ each-bad _ _ (there a) _ _ a.loop.i (omega arith) c.before.row-sound.ensures c.if1.true)
+    sym (a.loop.invariant.1 ∙ each_bad _ _ (there a) _ _ a.loop.i (omega arith) c.before.row-sound.ensures c.if1.true)
 
 add-i : tie.Need-overflow-add-i invariant-loop decreases-loop
 add-i c = omega arith

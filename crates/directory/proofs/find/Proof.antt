@@ -4,8 +4,8 @@ use Prim.Native.Nat.{◌≤◌, ◌-◌, ◌+◌}
 use mathlib.Core.Path.{◌≡◌}
 use lib.ListN.{length, take}
 use Rattle.directory.specs.Directory.{index_of}
-use Rattle.directory.proofs.Rows.{rows-length, from, index-here, index-next, index-none}
-use Rattle.directory.proofs.Looking.{find-many, find_none, find-row}
+use Rattle.directory.proofs.Rows.{rows_length, from, index_here, index_next, index_none}
+use Rattle.directory.proofs.Looking.{find_many, find_none, find_row}
 use borrow.Author.Rules.{rules}
 use Rattle.directory.proofs.find.Statement.{statement}
 use Rattle.directory.proofs.find.Tie as tie
@@ -20,11 +20,11 @@ no-row-requires : tie.Need-no-row-requires invariant-loop decreases-loop
 no-row-requires c κs = search rules
 
 returns : tie.Need-returns invariant-loop decreases-loop
-returns c = rw c.no_row.ensures (find-many _ _ c.before.if1.true)
+returns c = rw c.no_row.ensures (find_many _ _ c.before.if1.true)
 
 -- the array has the rows that are counted
 long : (c : tie.At-loop invariant-loop decreases-loop) → length c.before.before.args.t1.rows ≡ 32
-long c = rows-length c.before.before.args.t1 _ c.before.before.well-formed.0
+long c = rows_length c.before.before.args.t1 _ c.before.before.well-formed.0
 
 there : (c : tie.At-loop invariant-loop decreases-loop) → c.before.before.args.t1.count ≤ length c.before.before.args.t1.rows
 there c = omega (arith, long c, c.before.if1.false)
@@ -44,8 +44,8 @@ cast-if2 c = omega arith
 returns-2 : tie.Need-returns-2 invariant-loop decreases-loop
 returns-2 c =
     let a = c.before.before.before.before in
-    let e = index-here a.before.before.args.t1.rows _ (there a) a.before.before.args.id a.loop.i (omega arith) c.if2.true in
-    find-row _ _ a.before.if1.false (long a) (omega (arith, e, a.loop.invariant.1)) (omega arith)
+    let e = index_here a.before.before.args.t1.rows _ (there a) a.before.before.args.id a.loop.i (omega arith) c.if2.true in
+    find_row _ _ a.before.if1.false (long a) (omega (arith, e, a.loop.invariant.1)) (omega arith)
 
 add-i : tie.Need-overflow-add-i invariant-loop decreases-loop
 add-i c = omega arith
@@ -56,7 +56,7 @@ loop-less c = omega arith
 loop-again : tie.Need-loop-preserved invariant-loop decreases-loop
 loop-again c =
     let a = c.before.before.before.before in
-    let e = index-next a.before.before.args.t1.rows _ (there a) a.before.before.args.id a.loop.i (omega arith) c.if2.false in
+    let e = index_next a.before.before.args.t1.rows _ (there a) a.before.before.args.id a.loop.i (omega arith) c.if2.false in
     omega (arith, e, a.loop.invariant.1)
 
 no-row-requires-2 : tie.Need-no-row-requires-2 invariant-loop decreases-loop
@@ -65,7 +65,7 @@ no-row-requires-2 c κs = search rules
 returns-3 : tie.Need-returns-3 invariant-loop decreases-loop
 returns-3 c =
     let a = c.before.before in
-    let e = index-none a.before.before.args.t1.rows _ (there a) a.before.before.args.id a.loop.i (omega arith) in
+    let e = index_none a.before.before.args.t1.rows _ (there a) a.before.before.args.id a.loop.i (omega arith) in
     rw c.no-row2.ensures (find_none _ _ a.before.if1.false (long a) {i = a.loop.i} (omega (arith, e, a.loop.invariant.1)) (omega arith))
 
 pub find_spec : {M : Type 1} → statement M

@@ -51,12 +51,12 @@ use denote.Triple.Walked.{says, Stays, stay_none_slice, walk_of, Goes-none_slice
 use denote.Exit.{yes}
 use denote.Triple.Clauses.{ensured, lasts}
 use Rattle.refusals.specs.Check.{pick as either}
-use Rattle.directory.specs.Directory.{noRow, mostRows}
-use Rattle.directory.specs.Gathered.{gatheredFrom, gathered}
+use Rattle.directory.specs.Directory.{no_row, most_rows}
+use Rattle.directory.specs.Gathered.{gathered_from, gathered}
 use Rattle.directory.specs.declared.Row.{Row}
 use Rattle.directory.specs.declared.Directory.{Directory}
-use Rattle.directory.proofs.Looking.{kept-32, kept-all, counted-rows, so_far, one-stored, all-stored}
-use Rattle.directory.proofs.Lending.{rowsVal, rows_apart, rows_whole}
+use Rattle.directory.proofs.Looking.{kept_32, kept_all, counted_rows, so_far, one_stored, all_stored}
+use Rattle.directory.proofs.Lending.{rows_val, rows_apart, rows_whole}
 use Rattle.directory.specs.contracts.Row as T
 use Rattle.directory.proofs.Row.TheLaws as T'
 use Rattle.directory.specs.contracts.Directory as D
@@ -123,8 +123,8 @@ abbrev R32 : RattleType
 R32 = Array T.the_row 32
 
 -- how many of n rows are kept
-abbrev keptOf : ℕ → ℕ
-keptOf n = either (ltb mostRows n) mostRows n
+abbrev kept_of : ℕ → ℕ
+kept_of n = either (ltb most_rows n) most_rows n
 
 module _ {M : Type 1} {𝓤 : Ura M} (𝓛 : Logic 𝓤) (mem : Memory → SProp 𝓤) (run : Routine → Fun 𝓤) where
   -- the contracts that the proof cites
@@ -137,14 +137,14 @@ module _ {M : Type 1} {𝓤 : Ura M} (𝓛 : Logic 𝓤) (mem : Memory → SProp
   abbrev DirectoryOf : Contract 𝓤
   DirectoryOf = triple_of 𝓛 directory-of.signature (directory-of.spec 𝓛 mem run)
 
-  kept-said : (n r : ℕ) → ent 𝓤 (ensured 𝓛 kept.ended (kept.clauses 𝓛 mem run) tt (n, tt) tt r) (fact 𝓤 (r ≡ keptOf n))
-  kept-said n r = ex_e 𝓤 _ (λ ws. snd∗ 𝓤 (sem 𝓛 (lasts kept.ended tt (n, tt) ws)) (fact 𝓤 (r ≡ keptOf n)))
+  kept-said : (n r : ℕ) → ent 𝓤 (ensured 𝓛 kept.ended (kept.clauses 𝓛 mem run) tt (n, tt) tt r) (fact 𝓤 (r ≡ kept_of n))
+  kept-said n r = ex_e 𝓤 _ (λ ws. snd∗ 𝓤 (sem 𝓛 (lasts kept.ended tt (n, tt) ws)) (fact 𝓤 (r ≡ kept_of n)))
 
-  no-row-said : (r : Row) → ent 𝓤 (ensured 𝓛 no_row.ended (no_row.clauses 𝓛 mem run) tt tt tt r) (fact 𝓤 (r ≡ noRow))
-  no-row-said r = ex_e 𝓤 _ (λ ws. snd∗ 𝓤 (sem 𝓛 (lasts no_row.ended tt tt ws)) (fact 𝓤 (r ≡ noRow)))
+  no-row-said : (r : Row) → ent 𝓤 (ensured 𝓛 no_row.ended (no_row.clauses 𝓛 mem run) tt tt tt r) (fact 𝓤 (r ≡ no_row))
+  no-row-said r = ex_e 𝓤 _ (λ ws. snd∗ 𝓤 (sem 𝓛 (lasts no_row.ended tt tt ws)) (fact 𝓤 (r ≡ no_row)))
 
-  directory-said : (list : List Row) (n : ℕ) (r : Directory) → ent 𝓤 (ensured 𝓛 directory-of.ended (directory-of.clauses 𝓛 mem run) tt (list, (n, tt)) tt r) (fact 𝓤 (r ≡ counted-rows list n))
-  directory-said list n r = ex_e 𝓤 _ (λ ws. snd∗ 𝓤 (sem 𝓛 (lasts directory-of.ended tt (list, (n, tt)) ws)) (fact 𝓤 (r ≡ counted-rows list n)))
+  directory-said : (list : List Row) (n : ℕ) (r : Directory) → ent 𝓤 (ensured 𝓛 directory-of.ended (directory-of.clauses 𝓛 mem run) tt (list, (n, tt)) tt r) (fact 𝓤 (r ≡ counted_rows list n))
+  directory-said list n r = ex_e 𝓤 _ (λ ws. snd∗ 𝓤 (sem 𝓛 (lasts directory-of.ended tt (list, (n, tt)) ws)) (fact 𝓤 (r ≡ counted_rows list n)))
 
 module _ {M : Type 1} {𝓤 : Ura M} (𝓛 : Logic 𝓤) (mem : Memory → SProp 𝓤) (run : Routine → Fun 𝓤) (κ : Lft) (q : Share) (b o : ℕ) (γ : GName) (ys : List Row) where
   open 𝓛 use {H}
@@ -196,14 +196,14 @@ module _ {M : Type 1} {𝓤 : Ura M} (𝓛 : Logic 𝓤) (mem : Memory → SProp
   typed-rows : (list : List Row) (v : Val) → Is R32 list (v ∷ []) → Typed R32.mir (v ∷ [])
   typed-rows list v is = (Array-Lawful 𝓛 T.the_row (LL.lawful T.the_type T'.the_laws 𝓛) 32).typed list (v ∷ []) is
 
-  module _ (k : ℕ) (ke : k ≡ keptOf n) where
+  module _ (k : ℕ) (ke : k ≡ kept_of n) where
     -- where the loop stands: i rows are in place in the list
     record State : Type 0 where
       i : ℕ
       list : List Row
       low : i ≤ k
       long : length list ≡ 32
-      eq : gatheredFrom (so_far list i) (drop_l i ys) ≡ gathered ys
+      eq : gathered_from (so_far list i) (drop_l i ys) ≡ gathered ys
 
     abbrev Nearer : State → State → Type 0
     Nearer t s = k - t.i < k - s.i
@@ -211,8 +211,8 @@ module _ {M : Type 1} {𝓤 : Ura M} (𝓛 : Logic 𝓤) (mem : Memory → SProp
     Nearer-wf : WellFounded Nearer
     Nearer-wf = InvImage.wf (λ (s : State). k - s.i) lt-wf_rel.wf
 
-    abbrev start : (r : Row) → r ≡ noRow → State
-    start r e = record { i = 0; list = replicate 32 r; low = zero-le; long = refl; eq = ap (λ (r' : Row). gatheredFrom (so_far (replicate 32 r') 0) ys) e }
+    abbrev start : (r : Row) → r ≡ no_row → State
+    start r e = record { i = 0; list = replicate 32 r; low = zero-le; long = refl; eq = ap (λ (r' : Row). gathered_from (so_far (replicate 32 r') 0) ys) e }
 
     module _ (𝓣 : Tables 𝓤 H) (known-directory : Triple 𝓤 (𝓣.C #directory·directory-of) (DirectoryOf 𝓛 mem run)) (gn : Room T.the_row n)
         (l₀ l₁ l₂ l₃ l₄ l₅ l₆ l₇ l₈ l₉ l₁₀ l₁₁ l₁₂ l₁₃ l₁₄ : ℕ) where
@@ -243,17 +243,17 @@ module _ {M : Type 1} {𝓤 : Ura M} (𝓛 : Logic 𝓤) (mem : Memory → SProp
           rewrite ! 10 (λ (p : ℕ). ‵ (fat full_share ty_ptr l₉ 0 (vptr b p))) (sym (place_is 24 o s.i)) refl $
           move ! (1 ∷ []) $ fsplit ! $ move ! (1 ∷ []) $ fsplit ! $ move ! (1 ∷ 3 ∷ []) $
           looks_slice ! tt T.the_row (Is T.the_row) (shows 𝓛 T.the_row) (LL.vals T.the_type T'.the_laws) (LL.tells T.the_type T'.the_laws) (LL.copy T.the_type T'.the_copy 𝓛) ys b o (λ q'.
-          elem_out ! T.the_row (Is T.the_row) (shows 𝓛 T.the_row) (LL.vals T.the_type T'.the_laws) (LL.tells T.the_type T'.the_laws) q' ys s.i noRow b o (in_rows less) (λ g.
+          elem_out ! T.the_row (Is T.the_row) (shows 𝓛 T.the_row) (LL.vals T.the_type T'.the_laws) (LL.tells T.the_type T'.the_laws) q' ys s.i no_row b o (in_rows less) (λ g.
           -- [rows[i]; what it owns; the others; what shuts; the fractured borrow; res; the slice's fact; _13; …]
           assigns ! (of_opd ! (load ! (from ! (hop ! (look ! 15 refl) (stop !))) (look_raw ! 0 refl))) (from ! (stop !)) (init ! 13 refl ((LL.lawful T.the_type T'.the_laws 𝓛).typed y _ g).0) $
-          elem_back ! T.the_row q' ys s.i noRow (T'.lowered y ∷ []) b o (in_rows less) $ shuts_slice ! tt T.the_row q' ys b o $
+          elem_back ! T.the_row q' ys s.i no_row (T'.lowered y ∷ []) b o (in_rows less) $ shuts_slice ! tt T.the_row q' ys b o $
           move ! (2 ∷ 1 ∷ []) $ fjoin ! $ move ! (2 ∷ 0 ∷ []) $ fjoin ! $
           -- [what the slice owns; the token; _13; …]: the place in the list
           assigns ! (bin ! (load ! (from ! (stop !)) (look ! 20 refl)) (lit ! tt) (record { fits = place-fits less })) (from ! (stop !)) (init ! 6 refl (tt, record { fits = place-fits less })) $
           assigns ! (addr ! (from ! (stop !))) (from ! (stop !)) (init ! 4 refl (tt, tt)) $
           assigns ! (bin ! (load ! (from ! (stop !)) (look ! 4 refl)) (load ! (from ! (stop !)) (look ! 6 refl)) tt) (from ! (stop !)) (init ! 2 refl (tt, tt)) $
           rewrite ! 2 (λ (p : ℕ). ‵ (fat full_share ty_ptr l₁₃ 0 (vptr l₃ p))) (sym (place_is 24 0 s.i)) refl $ move ! (22 ∷ []) $
-          elem_out ! T.the_row (Is T.the_row) (shows 𝓛 T.the_row) (LL.vals T.the_type T'.the_laws) (LL.tells T.the_type T'.the_laws) full_share s.list s.i noRow l₃ 0 (in_list less) (λ _.
+          elem_out ! T.the_row (Is T.the_row) (shows 𝓛 T.the_row) (LL.vals T.the_type T'.the_laws) (LL.tells T.the_type T'.the_laws) full_share s.list s.i no_row l₃ 0 (in_list less) (λ _.
           -- [list[i]; what it owns; the others; what the slice owns; the token; _13; …]: the row is stored
           assigns ! (of_opd ! (load ! (from ! (stop !)) (look ! 11 refl))) (from ! (hop ! (look ! 5 refl) (stop !))) (store_raw ! 0 refl ((LL.lawful T.the_type T'.the_laws 𝓛).typed y _ g).0) $
           move ! (1 ∷ []) $ drop ! $ owned ! T.the_row (Is T.the_row) (LL.makes T.the_type T'.the_plain 𝓛) y (T'.lowered y ∷ []) g $ move ! (1 ∷ 0 ∷ []) $
@@ -266,7 +266,7 @@ module _ {M : Type 1} {𝓤 : Ura M} (𝓛 : Logic 𝓤) (mem : Memory → SProp
             list = set s.list s.i y;
             low = add-one-le (lt less);
             long = length-set s.list s.i y ∙ s.long;
-            eq = sym (one-stored s.list ys s.i (omega (arith, lt less, kept-32 n k ke)) (in_rows less)) ∙ s.eq;
+            eq = sym (one_stored s.list ys s.i (omega (arith, lt less, kept_32 n k ke)) (in_rows less)) ∙ s.eq;
           }) (add-one-dec k s.i (lt less))))))
           (λ over. jumps ! $ exec ! 𝓣.C 𝓣.Λ En mirs.t-7 (at_ret En Post) $ move ! (22 ∷ []) $
           -- the array is whole again
@@ -278,34 +278,34 @@ module _ {M : Type 1} {𝓤 : Ura M} (𝓛 : Logic 𝓤) (mem : Memory → SProp
           use0 𝓛 (raw ((DirectoryOf 𝓛 mem run).pre (to-directory s.list v))) (goes-directory s.list v is gn.0) $
           calls_at ! (fm_of 𝓤 H 𝓛.laws 𝓣) (DirectoryOf 𝓛 mem run) known-directory (to-directory s.list v) (and_then ! (load ! (from ! (stop !)) (look ! 31 refl)) (and_then ! (load ! (from ! (stop !)) (look ! 20 refl)) (no_more !))) (λ u.
           use1 𝓛 (later (some (λ (d : Directory). (‵ ftrue ⊛ ‵ ((D.the_row).own_val d (u ∷ []))) ⊛ raw (ensured 𝓛 directory-of.ended (directory-of.clauses 𝓛 mem run) tt (s.list, (n, tt)) tt d)))) (id⊢ 𝓤 _) $ await ! tt $ pick ! (λ d.
-          split ! $ move ! (1 ∷ []) $ use1 𝓛 (raw (fact 𝓤 (d ≡ counted-rows s.list n))) (directory-said 𝓛 mem run s.list n d) $ heard ! (d ≡ counted-rows s.list n) (λ e. split ! $ drop ! $
+          split ! $ move ! (1 ∷ []) $ use1 𝓛 (raw (fact 𝓤 (d ≡ counted_rows s.list n))) (directory-said 𝓛 mem run s.list n d) $ heard ! (d ≡ counted_rows s.list n) (λ e. split ! $ drop ! $
           peeks ! D.the_row (Is D.the_row) (shows 𝓛 D.the_row) d (u ∷ []) (λ has. drop ! $
           land ! (from ! (stop !)) (init ! 28 refl ((LL.lawful D.the_type D'.the_laws 𝓛).typed d _ has).0) $
           returns ! (look ! 28 refl) $ forget ! 0 refl $ forget ! 15 refl $ forget ! 19 refl $ forget ! 21 refl $ forget ! 24 refl $ forget ! 26 refl $ forget ! 28 refl $ forget ! 30 refl $
           move ! (28 ∷ 29 ∷ []) $ free1 ! $ move ! (26 ∷ 27 ∷ []) $ free1 ! $ move ! (24 ∷ 25 ∷ []) $ free1 ! $ move ! (0 ∷ 23 ∷ []) $ free1 ! $ move ! (20 ∷ 21 ∷ []) $ free1 ! $ move ! (18 ∷ 19 ∷ []) $ free1 ! $ move ! (16 ∷ 17 ∷ []) $ free1 ! $
           move ! (14 ∷ 15 ∷ []) $ free1 ! $ move ! (12 ∷ 13 ∷ []) $ free1 ! $ move ! (10 ∷ 11 ∷ []) $ free1 ! $ move ! (8 ∷ 9 ∷ []) $ free1 ! $ move ! (6 ∷ 7 ∷ []) $ free1 ! $ move ! (4 ∷ 5 ∷ []) $ free1 ! $ move ! (2 ∷ 3 ∷ []) $ free1 ! $ move ! (2 ∷ 3 ∷ []) $ free1 ! $ free0 ! $
-          by ! (exits d u has (e ∙ sym (all-stored s.list ys s.i (le_antisymm s.low (nltb→le s.i k over) ∙ ke)) ∙ s.eq))))))))
+          by ! (exits d u has (e ∙ sym (all_stored s.list ys s.i (le_antisymm s.low (nltb→le s.i k over) ∙ ke)) ∙ s.eq))))))))
         where
           y : Row
-          y = get_or ys s.i noRow
+          y = get_or ys s.i no_row
 
           v : Val
-          v = rowsVal s.list
+          v = rows_val s.list
 
           lt : Holds (ltb s.i k) → s.i < k
           lt less = ltb→lt s.i k less
 
           place-fits : Holds (ltb s.i k) → s.i * 24 < 2 ^ 64
-          place-fits less = fits-place s.i k (lt less) (kept-32 n k ke)
+          place-fits less = fits-place s.i k (lt less) (kept_32 n k ke)
 
           next_fits : Holds (ltb s.i k) → s.i + 1 < 2 ^ 64
-          next_fits less = fits_next s.i k (lt less) (kept-32 n k ke)
+          next_fits less = fits_next s.i k (lt less) (kept_32 n k ke)
 
           in_rows : Holds (ltb s.i k) → s.i < length ys
-          in_rows less = omega (arith, lt less, kept-all n k ke)
+          in_rows less = omega (arith, lt less, kept_all n k ke)
 
           in_list : Holds (ltb s.i k) → s.i < length s.list
-          in_list less = omega (arith, lt less, kept-32 n k ke, s.long)
+          in_list less = omega (arith, lt less, kept_32 n k ke, s.long)
 
   module _ (𝓣 : Tables 𝓤 H) (Known-kept : Triple 𝓤 (𝓣.C #directory·kept) (Kept 𝓛 mem run)) (known-no-row : Triple 𝓤 (𝓣.C #directory·no-row) (NoRow 𝓛 mem run))
       (known-directory : Triple 𝓤 (𝓣.C #directory·directory-of) (DirectoryOf 𝓛 mem run)) where
@@ -318,13 +318,13 @@ module _ {M : Type 1} {𝓤 : Ura M} (𝓛 : Logic 𝓤) (mem : Memory → SProp
         use0 𝓛 (raw ((Kept 𝓛 mem run).pre to-kept)) (goes_kept gn.0) $
         calls_at ! (fm_of 𝓤 H 𝓛.laws 𝓣) (Kept 𝓛 mem run) Known-kept to-kept (and_then ! (load ! (from ! (stop !)) (look ! 19 refl)) (no_more !)) (λ w.
         use1 𝓛 (later (some (λ (r : ℕ). (‵ ftrue ⊛ ‵ (usize.own_val r (w ∷ []))) ⊛ raw (ensured 𝓛 kept.ended (kept.clauses 𝓛 mem run) tt (n, tt) tt r)))) (id⊢ 𝓤 _) $ await ! tt $ pick ! (λ k.
-        split ! $ move ! (1 ∷ []) $ use1 𝓛 (raw (fact 𝓤 (k ≡ keptOf n))) (kept-said 𝓛 mem run n k) $ heard ! (k ≡ keptOf n) (λ ke. split ! $ drop ! $
+        split ! $ move ! (1 ∷ []) $ use1 𝓛 (raw (fact 𝓤 (k ≡ kept_of n))) (kept-said 𝓛 mem run n k) $ heard ! (k ≡ kept_of n) (λ ke. split ! $ drop ! $
         peeks ! usize (Is usize) (shows 𝓛 usize) k (w ∷ []) (λ has. drop ! $
         land ! (from ! (stop !)) (init ! 24 refl ((uint_Lawful 𝓛 w64).typed k _ has).0) $ rewrite ! 24 (λ (z : Val). ‵ (fat full_share word l₂ 0 z)) (ap only has.0) refl $
         use0 𝓛 (raw ((NoRow 𝓛 mem run).pre to-no-row)) goes-no-row $
         calls_at ! (fm_of 𝓤 H 𝓛.laws 𝓣) (NoRow 𝓛 mem run) known-no-row to-no-row (no_more !) (λ u.
         use1 𝓛 (later (some (λ (r : Row). (‵ ftrue ⊛ ‵ ((T.the_row).own_val r (u ∷ []))) ⊛ raw (ensured 𝓛 no_row.ended (no_row.clauses 𝓛 mem run) tt tt tt r)))) (id⊢ 𝓤 _) $ await ! tt $ pick ! (λ r.
-        split ! $ move ! (1 ∷ []) $ use1 𝓛 (raw (fact 𝓤 (r ≡ noRow))) (no-row-said 𝓛 mem run r) $ heard ! (r ≡ noRow) (λ e. split ! $ drop ! $
+        split ! $ move ! (1 ∷ []) $ use1 𝓛 (raw (fact 𝓤 (r ≡ no_row))) (no-row-said 𝓛 mem run r) $ heard ! (r ≡ no_row) (λ e. split ! $ drop ! $
         peeks ! T.the_row (Is T.the_row) (shows 𝓛 T.the_row) r (u ∷ []) (λ one.
         land ! (from ! (stop !)) (init ! 17 refl ((LL.lawful T.the_type T'.the_laws 𝓛).typed r _ one).0) $
         use1 𝓛 (‵ (R32.own (replicate 32 r) (array_val (replicate 32 u) ∷ []))) (Array-repeat 𝓛 T.the_row (LL.copy T.the_type T'.the_copy 𝓛) 32 r u) $

@@ -37,7 +37,7 @@ use denote.Exit.{yes}
 use denote.Triple.Clauses.{ensured, lasts}
 use Rattle.directory.specs.Directory.{answer_of, knowing}
 use Rattle.directory.specs.Gathered.{gathered, list_of}
-use Rattle.directory.proofs.Looking.{gathered-knowing}
+use Rattle.directory.proofs.Looking.{gathered_knowing}
 use Rattle.directory.specs.declared.Row.{Row}
 use Rattle.directory.specs.declared.Directory.{Directory}
 use Rattle.directory.specs.declared.KnowsAnswer.{KnowsAnswer}
@@ -162,7 +162,7 @@ module _ {M : Type 1} {𝓤 : Ura M} (𝓛 : Logic 𝓤) (mem : Memory → SProp
         land ! (from ! (stop !)) (init ! 14 refl ((EL.lawful K.the_type K'.the_laws 𝓛 tt).typed r _ is').0) $
         returns ! (look ! 14 refl) $ forget ! 4 refl $ forget ! 6 refl $ forget ! 8 refl $ forget ! 10 refl $ forget ! 12 refl $ forget ! 14 refl $
         move ! (14 ∷ 15 ∷ []) $ free1 ! $ move ! (12 ∷ 13 ∷ []) $ free1 ! $ move ! (10 ∷ 11 ∷ []) $ free1 ! $ move ! (8 ∷ 9 ∷ []) $ free1 ! $ move ! (6 ∷ 7 ∷ []) $ free1 ! $ move ! (4 ∷ 5 ∷ []) $ free1 ! $ free0 ! $
-        by ! (exits r u' (subst (λ (d' : Directory). answer_of r ≡ knowing f w (list_of d') id) e e' ∙ gathered-knowing f w x.now id))))))))))))))))
+        by ! (exits r u' (subst (λ (d' : Directory). answer_of r ≡ knowing f w (list_of d') id) e e' ∙ gathered_knowing f w x.now id))))))))))))))))
 
 module _ {M : Type 1} {𝓤 : Ura M} (𝓛 : Logic 𝓤) (mem : Memory → SProp 𝓤) (run : Routine → Fun 𝓤) (𝓣 : Tables 𝓤 𝓛.H)
     (known-gather : Triple 𝓤 (𝓣.C #directory·gather) (Gather 𝓛 mem run)) (known-inner : Triple 𝓤 (𝓣.C #directory·knows-in) (Inner 𝓛 mem run)) where

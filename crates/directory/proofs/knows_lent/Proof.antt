@@ -45,7 +45,7 @@ use denote.Triple.Clauses.{ensured, lasts}
 use Rattle.directory.specs.Directory.{answer_of, knowing}
 use Rattle.directory.specs.declared.Row.{Row}
 use Rattle.directory.specs.declared.KnowsAnswer.{KnowsAnswer}
-use Rattle.directory.proofs.Lending.{rowArray, front, frontOwn, lentRows, keptRows, lends-front, front-back}
+use Rattle.directory.proofs.Lending.{row_array, front, front_own, lent_rows, kept_rows, lends_front, front_back}
 use Rattle.directory.specs.contracts.Row as T
 use Rattle.directory.proofs.Row.TheLaws as T'
 use Rattle.directory.specs.contracts.KnowsAnswer as K
@@ -129,15 +129,15 @@ module _ {M : Type 1} {𝓤 : Ura M} (𝓛 : Logic 𝓤) (mem : Memory → SProp
         move ! (19 ∷ []) $ fsplit ! $ move ! (1 ∷ []) $ fsplit ! $ drop ! $ move ! (1 ∷ 6 ∷ []) $
         -- [what the rows own; _6; the rest; …]
         lft_new ! tt (λ α. move ! (2 ∷ 1 ∷ []) $
-        use2 𝓛 (later (some (λ (γ : GName). ‵ (frontOwn 𝓛 (α ∷ []) l₆ k rows long γ) ⊛ ‵ (flent (α ∷ []) (lentRows 𝓛 (α ∷ []) l₆ k rows long)) ⊛ ‵ (keptRows 𝓛 (α ∷ []) l₆ k rows long))))
-        (lends-front 𝓛 (α ∷ []) l₆ k rows long v) $ await ! tt $ pick ! (λ γ. split ! $
+        use2 𝓛 (later (some (λ (γ : GName). ‵ (front_own 𝓛 (α ∷ []) l₆ k rows long γ) ⊛ ‵ (flent (α ∷ []) (lent_rows 𝓛 (α ∷ []) l₆ k rows long)) ⊛ ‵ (kept_rows 𝓛 (α ∷ []) l₆ k rows long))))
+        (lends_front 𝓛 (α ∷ []) l₆ k rows long v) $ await ! tt $ pick ! (λ γ. split ! $
         -- [the slice; what is kept; the token; the rest; _8; …]
         move ! (2 ∷ 0 ∷ 3 ∷ []) $ use3 𝓛 (raw ((Inner 𝓛 mem run).pre (to_inner (α ∷ []) (front 𝓛 (α ∷ []) l₆ k rows long γ)))) (goes-inner (α ∷ []) (front 𝓛 (α ∷ []) l₆ k rows long γ)) $
         calls_at ! fm (Inner 𝓛 mem run) known-inner (to_inner (α ∷ []) (front 𝓛 (α ∷ []) l₆ k rows long γ)) (and_then ! (load ! (from ! (stop !)) (look ! 2 refl)) (and_then ! (load ! (from ! (stop !)) (look ! 11 refl)) (and_then ! (load ! (from ! (stop !)) (look ! 9 refl)) (and_then ! (load ! (from ! (stop !)) (look ! 7 refl)) (no_more !))))) (λ u.
         use1 𝓛 (later (some (λ (r : KnowsAnswer). ((‵ (flft (α ∷ []) full_share) ⊛ ‵ ftrue) ⊛ ‵ ((K.the_row).own_val r (u ∷ []))) ⊛ raw (ensured 𝓛 inner.ended (inner.clauses 𝓛 mem run) (α ∷ [], tt) (front 𝓛 (α ∷ []) l₆ k rows long γ, (f, (w, (id, tt)))) tt r)))) (id⊢ 𝓤 _) $ await ! tt $ pick ! (λ r.
         split ! $ move ! (1 ∷ []) $ use1 𝓛 (raw (fact 𝓤 (answer_of r ≡ knowing f w (take k rows) id))) (inner-said (α ∷ []) (front 𝓛 (α ∷ []) l₆ k rows long γ) r) $ heard ! (answer_of r ≡ knowing f w (take k rows) id) (λ e. split ! $ split ! $
         -- [the token; true; the result; what is kept; …]: the lifetime ends, and the array is room again
-        lft_end ! tt $ move ! (0 ∷ 3 ∷ []) $ use2 𝓛 (later (‵ (froom rowArray l₆ 0))) (front-back 𝓛 (α ∷ []) l₆ k rows long) $ await ! tt $
+        lft_end ! tt $ move ! (0 ∷ 3 ∷ []) $ use2 𝓛 (later (‵ (froom row_array l₆ 0))) (front_back 𝓛 (α ∷ []) l₆ k rows long) $ await ! tt $
         move ! (1 ∷ []) $ drop ! $ move ! (1 ∷ []) $
         peeks ! K.the_row (Is K.the_row) (shows 𝓛 K.the_row) r (u ∷ []) (λ is.
         land ! (from ! (stop !)) (init ! 17 refl ((EL.lawful K.the_type K'.the_laws 𝓛 tt).typed r _ is).0) $

@@ -37,7 +37,7 @@ use denote.Exit.{yes}
 use denote.Triple.Clauses.{ensured, lasts}
 use Rattle.directory.specs.Directory.{LookedUp}
 use Rattle.directory.specs.Gathered.{gathered, list_of}
-use Rattle.directory.proofs.Looking.{gathered-looked}
+use Rattle.directory.proofs.Looking.{gathered_looked}
 use Rattle.directory.specs.declared.Row.{Row}
 use Rattle.directory.specs.declared.Directory.{Directory}
 use Rattle.directory.specs.contracts.Row as T
@@ -169,7 +169,7 @@ module _ {M : Type 1} {𝓤 : Ura M} (𝓛 : Logic 𝓤) (mem : Memory → SProp
         land ! (from ! (stop !)) (init ! 15 refl ((shr_slice_Lawful 𝓛 (named 1) κ' u8).typed r (u' ∷ []) is').0) $
         returns ! (look ! 15 refl) $ forget ! 5 refl $ forget ! 7 refl $ forget ! 9 refl $ forget ! 11 refl $ forget ! 13 refl $ forget ! 15 refl $
         move ! (15 ∷ 16 ∷ []) $ free1 ! $ move ! (13 ∷ 14 ∷ []) $ free1 ! $ move ! (11 ∷ 12 ∷ []) $ free1 ! $ move ! (9 ∷ 10 ∷ []) $ free1 ! $ move ! (7 ∷ 8 ∷ []) $ free1 ! $ move ! (5 ∷ 6 ∷ []) $ free1 ! $ free0 ! $
-        by ! (exits r u' (gathered-looked x.now f w id r (subst (λ (d' : Directory). LookedUp (list_of d') f w id r) e e')))))))))))))))))
+        by ! (exits r u' (gathered_looked x.now f w id r (subst (λ (d' : Directory). LookedUp (list_of d') f w id r) e e')))))))))))))))))
 
 module _ {M : Type 1} {𝓤 : Ura M} (𝓛 : Logic 𝓤) (mem : Memory → SProp 𝓤) (run : Routine → Fun 𝓤) (𝓣 : Tables 𝓤 𝓛.H)
     (known-gather : Triple 𝓤 (𝓣.C #directory·gather) (Gather 𝓛 mem run)) (known-inner : Triple 𝓤 (𝓣.C #directory·lookup-in) (Inner 𝓛 mem run)) where

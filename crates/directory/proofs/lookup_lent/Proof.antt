@@ -43,7 +43,7 @@ use denote.Exit.{yes}
 use denote.Triple.Clauses.{ensured, lasts}
 use Rattle.directory.specs.Directory.{LookedUp}
 use Rattle.directory.specs.declared.Row.{Row}
-use Rattle.directory.proofs.Lending.{rowArray, front, frontOwn, lentRows, keptRows, lends-front, front-back}
+use Rattle.directory.proofs.Lending.{row_array, front, front_own, lent_rows, kept_rows, lends_front, front_back}
 use Rattle.directory.specs.contracts.Row as T
 use Rattle.directory.proofs.Row.TheLaws as T'
 use Rattle.directory.specs.contracts.lookup as inner
@@ -132,15 +132,15 @@ module _ {M : Type 1} {𝓤 : Ura M} (𝓛 : Logic 𝓤) (mem : Memory → SProp
         move ! (19 ∷ []) $ fsplit ! $ move ! (1 ∷ []) $ fsplit ! $ drop ! $ move ! (1 ∷ 6 ∷ []) $
         -- [what the rows own; _6; the rest; …]
         lft_new ! tt (λ α. move ! (2 ∷ 1 ∷ []) $
-        use2 𝓛 (later (some (λ (γ : GName). ‵ (frontOwn 𝓛 (α ∷ []) l₆ k rows long γ) ⊛ ‵ (flent (α ∷ []) (lentRows 𝓛 (α ∷ []) l₆ k rows long)) ⊛ ‵ (keptRows 𝓛 (α ∷ []) l₆ k rows long))))
-        (lends-front 𝓛 (α ∷ []) l₆ k rows long v) $ await ! tt $ pick ! (λ γ. split ! $
+        use2 𝓛 (later (some (λ (γ : GName). ‵ (front_own 𝓛 (α ∷ []) l₆ k rows long γ) ⊛ ‵ (flent (α ∷ []) (lent_rows 𝓛 (α ∷ []) l₆ k rows long)) ⊛ ‵ (kept_rows 𝓛 (α ∷ []) l₆ k rows long))))
+        (lends_front 𝓛 (α ∷ []) l₆ k rows long v) $ await ! tt $ pick ! (λ γ. split ! $
         -- [the slice; what is kept; the token; the rest; _8; …; the token of the areas]
         move ! (2 ∷ 21 ∷ []) $ join ! $ move ! (0 ∷ 1 ∷ 3 ∷ []) $ use3 𝓛 (raw ((Inner 𝓛 mem run).pre (to_inner (α ∷ []) (front 𝓛 (α ∷ []) l₆ k rows long γ)))) (goes-inner (α ∷ []) (front 𝓛 (α ∷ []) l₆ k rows long γ)) $
         calls_at ! fm (Inner 𝓛 mem run) known-inner (to_inner (α ∷ []) (front 𝓛 (α ∷ []) l₆ k rows long γ)) (and_then ! (load ! (from ! (stop !)) (look ! 2 refl)) (and_then ! (load ! (from ! (stop !)) (look ! 11 refl)) (and_then ! (load ! (from ! (stop !)) (look ! 9 refl)) (and_then ! (load ! (from ! (stop !)) (look ! 7 refl)) (no_more !))))) (λ u.
         use1 𝓛 (later (some (λ (r : Bor (List ℕ)). ((‵ (flft (α ∷ []) full_share) ⊛ ‵ (flft κ q) ⊛ ‵ ftrue) ⊛ ‵ ((ShrSlice (named 0) κ u8).own_val r (u ∷ []))) ⊛ raw (ensured 𝓛 inner.ended (inner.clauses 𝓛 mem run) (α ∷ [], (κ, tt)) (front 𝓛 (α ∷ []) l₆ k rows long γ, (f, (w, (id, tt)))) tt r)))) (id⊢ 𝓤 _) $ await ! tt $ pick ! (λ r.
         split ! $ move ! (1 ∷ []) $ use1 𝓛 (raw (fact 𝓤 (LookedUp (take k rows) f w id r))) (inner-said (α ∷ []) (front 𝓛 (α ∷ []) l₆ k rows long γ) r) $ heard ! (LookedUp (take k rows) f w id r) (λ e. split ! $ split ! $
         -- [the token; that of the areas; the result; what is kept; …]: the lifetime ends, and the array is room again
-        lft_end ! tt $ move ! (0 ∷ 3 ∷ []) $ use2 𝓛 (later (‵ (froom rowArray l₆ 0))) (front-back 𝓛 (α ∷ []) l₆ k rows long) $ await ! tt $ move ! (2 ∷ 1 ∷ []) $
+        lft_end ! tt $ move ! (0 ∷ 3 ∷ []) $ use2 𝓛 (later (‵ (froom row_array l₆ 0))) (front_back 𝓛 (α ∷ []) l₆ k rows long) $ await ! tt $ move ! (2 ∷ 1 ∷ []) $
         peeks ! (ShrSlice (named 0) κ u8) (Is (ShrSlice (named 0) κ u8)) (shows 𝓛 (ShrSlice (named 0) κ u8)) r (u ∷ []) (λ is.
         land ! (from ! (stop !)) (init ! 18 refl ((shr_slice_Lawful 𝓛 (named 0) κ u8).typed r (u ∷ []) is).0) $
         -- [the result; the token of the areas; room for _6; _8; …]

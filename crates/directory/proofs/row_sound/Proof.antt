@@ -1,6 +1,6 @@
 -- `directory::row_sound` meets its contract, a test after the other; nothing wraps. Assumes nothing.
 use native.Mathlib.Omega.{arith}
-use Rattle.directory.proofs.Rows.{id-over, too_long, past-area, in_area}
+use Rattle.directory.proofs.Rows.{id_over, too_long, past_area, in_area}
 use borrow.Author.Rules.{rules}
 use Rattle.directory.proofs.row_sound.Statement.{statement}
 use Rattle.directory.proofs.row_sound.Tie as tie
@@ -9,13 +9,13 @@ area-octets-requires : tie.Need-area-octets-requires
 area-octets-requires c κs = search rules
 
 returns : tie.Need-returns
-returns c = id-over _ _ _ c.before.before.area-octets.ensures (omega arith)
+returns c = id_over _ _ _ c.before.before.area-octets.ensures (omega arith)
 
 returns-2 : tie.Need-returns-2
 returns-2 c = too_long _ _ _ c.before.before.before.area-octets.ensures (omega arith) (omega arith)
 
 returns-3 : tie.Need-returns-3
-returns-3 c = past-area _ _ _ c.before.before.before.before.area-octets.ensures (omega arith) (omega arith) (omega arith)
+returns-3 c = past_area _ _ _ c.before.before.before.before.area-octets.ensures (omega arith) (omega arith) (omega arith)
 
 returns-4 : tie.Need-returns-4
 returns-4 c = in_area _ _ _ c.before.before.before.before.area-octets.ensures (omega arith) (omega arith) (omega arith)

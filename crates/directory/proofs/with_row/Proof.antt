@@ -1,6 +1,6 @@
 -- `directory::with_row` meets its contract by its test. Assumes nothing.
 use mathlib.Core.Path.{sym}
-use Rattle.directory.proofs.Looking.{with-more, with-full}
+use Rattle.directory.proofs.Looking.{with_more, with_full}
 use borrow.Author.Rules.{rules}
 use Rattle.directory.proofs.with_row.Statement.{statement}
 use Rattle.directory.proofs.with_row.Tie as tie
@@ -18,10 +18,10 @@ add-next-2 : tie.Need-overflow-add-next-2
 add-next-2 c = search rules
 
 returns : tie.Need-returns
-returns c = sym (with-more _ _ c.if1.true)
+returns c = sym (with_more _ _ c.if1.true)
 
 returns-2 : tie.Need-returns-2
-returns-2 c = sym (with-full _ _ c.if1.false)
+returns-2 c = sym (with_full _ _ c.if1.false)
 
 pub with-row-spec : {M : Type 1} → statement M
 with-row-spec =

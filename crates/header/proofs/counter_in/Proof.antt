@@ -1,5 +1,5 @@
 -- `header::counter_in` meets its contract: seven bits more with each octet. Assumes nothing.
-use Rattle.header.proofs.Reading.{counter-one, counter-two, counter-three}
+use Rattle.header.proofs.Reading.{counter_one, counter_two, counter_three}
 use borrow.Author.Rules.{rules}
 use Rattle.header.proofs.counter_in.Statement.{statement}
 use Rattle.header.proofs.counter_in.Tie as tie
@@ -8,7 +8,7 @@ octet-requires : tie.Need-octet-requires
 octet-requires c κs = search rules
 
 returns : tie.Need-returns
-returns c = counter-one _ c.before.octet.ensures.0 c.before.octet.ensures.1 _ c.if1.true
+returns c = counter_one _ c.before.octet.ensures.0 c.before.octet.ensures.1 _ c.if1.true
 
 mul-two : tie.Need-overflow-mul-two
 mul-two c = search rules
@@ -23,7 +23,7 @@ returns-2 : tie.Need-returns-2
 returns-2 c =
     let o = c.before.octet2.ensures in
     let d = c.before.before in
-    counter-two _ d.before.octet.ensures.0 d.before.octet.ensures.1 _ d.if1.false o.0 o.1 c.if2.true
+    counter_two _ d.before.octet.ensures.0 d.before.octet.ensures.1 _ d.if1.false o.0 o.1 c.if2.true
 
 mul-result : tie.Need-overflow-mul-result
 mul-result c = search rules
@@ -38,7 +38,7 @@ returns-3 : tie.Need-returns-3
 returns-3 c =
     let o = c.before.before.octet2.ensures in
     let d = c.before.before.before in
-    counter-three _ d.before.octet.ensures.0 d.before.octet.ensures.1 _ d.if1.false o.0 o.1 c.before.if2.false c.octet3.ensures.0 c.octet3.ensures.1
+    counter_three _ d.before.octet.ensures.0 d.before.octet.ensures.1 _ d.if1.false o.0 o.1 c.before.if2.false c.octet3.ensures.0 c.octet3.ensures.1
 
 pub counter-in-spec : {M : Type 1} → statement M
 counter-in-spec =

@@ -1,6 +1,6 @@
 -- `header::first_octet` meets its contract: the last mark is worth 128. Assumes nothing.
 use mathlib.Core.Path.{refl}
-use Rattle.header.proofs.Writing.{first-last, first_more}
+use Rattle.header.proofs.Writing.{first_last, first_more}
 use borrow.Author.Rules.{rules}
 use Rattle.header.proofs.first_octet.Statement.{statement}
 use Rattle.header.proofs.first_octet.Tie as tie
@@ -24,7 +24,7 @@ cast-result : tie.Need-overflow-cast-result
 cast-result c = search rules
 
 returns : tie.Need-returns
-returns c = first-last _ _ _ c.if1.true refl
+returns c = first_last _ _ _ c.if1.true refl
 
 cast-result-2 : tie.Need-overflow-cast-result-2
 cast-result-2 c = search rules

@@ -1,7 +1,7 @@
 -- `header::read` meets its contract: its tests are the checks, in their order; its round trips are laws of the definitions. Assumes nothing.
 use native.Mathlib.Omega.{arith}
-use Rattle.header.proofs.Reading.{cut_short, third-bit, overlong, whole}
-use Rattle.header.proofs.RoundTrip.{reading-written, reading-exact}
+use Rattle.header.proofs.Reading.{cut_short, third_bit, overlong, whole}
+use Rattle.header.proofs.RoundTrip.{reading_written, reading_exact}
 use borrow.Author.Rules.{rules}
 use Rattle.header.proofs.read.Statement.{statement}
 use Rattle.header.proofs.read.Tie as tie
@@ -10,7 +10,7 @@ length-of-requires : tie.Need-length-of-requires
 length-of-requires c κs = search rules
 
 returns : tie.Need-returns
-returns c = (cut_short _ c.before.length-of.ensures (omega arith), (reading-written, reading-exact))
+returns c = (cut_short _ c.before.length-of.ensures (omega arith), (reading_written, reading_exact))
 
 third-ends-requires : tie.Need-third-ends-requires
 third-ends-requires c κs = search rules
@@ -18,7 +18,7 @@ third-ends-requires c κs = search rules
 returns-2 : tie.Need-returns-2
 returns-2 c =
     let d = c.before.before in
-    (third-bit _ d.before.length-of.ensures (omega arith) c.before.third-ends.ensures c.if2.true, (reading-written, reading-exact))
+    (third_bit _ d.before.length-of.ensures (omega arith) c.before.third-ends.ensures c.if2.true, (reading_written, reading_exact))
 
 counter-in-requires : tie.Need-counter-in-requires
 counter-in-requires c κs = search rules
@@ -30,7 +30,7 @@ returns-3 : tie.Need-returns-3
 returns-3 c =
     let d = c.before.before.before in
     let e = d.before.before in
-    (overlong _ e.before.length-of.ensures (omega arith) d.before.third-ends.ensures d.if2.false c.before.before.counter-in.ensures c.before.length-for.ensures (omega arith), (reading-written, reading-exact))
+    (overlong _ e.before.length-of.ensures (omega arith) d.before.third-ends.ensures d.if2.false c.before.before.counter-in.ensures c.before.length-for.ensures (omega arith), (reading_written, reading_exact))
 
 octet-requires : tie.Need-octet-requires
 octet-requires c κs = search rules
@@ -43,7 +43,7 @@ returns-4 c =
     let f = c.before.before in
     let d = f.before.before in
     let e = d.before.before in
-    (whole _ e.before.length-of.ensures (omega arith) d.before.third-ends.ensures d.if2.false f.before.counter-in.ensures f.length-for.ensures (omega arith) c.octet.ensures.0 c.octet.ensures.1, (reading-written, reading-exact))
+    (whole _ e.before.length-of.ensures (omega arith) d.before.third-ends.ensures d.if2.false f.before.counter-in.ensures f.length-for.ensures (omega arith) c.octet.ensures.0 c.octet.ensures.1, (reading_written, reading_exact))
 
 pub read_spec : {M : Type 1} → statement M
 read_spec =

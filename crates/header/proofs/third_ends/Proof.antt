@@ -8,7 +8,7 @@ end-bit-requires : tie.Need-end-bit-requires
 end-bit-requires c κs = search rules
 
 returns : tie.Need-returns
-returns c = simp (← c.end-bit.ensures, eq-eqb _ _ c.before.if1.true)
+returns c = simp (← c.end_bit_law.ensures, eq-eqb _ _ c.before.if1.true)
 
 returns-2 : tie.Need-returns-2
 returns-2 c = simp (ne_eqb _ _ c.if1.false)

@@ -1,6 +1,6 @@
 -- `worked_examples::run_cases` meets its contract: that the marked cases hold is a fact of the definitions. Assumes nothing.
 use borrow.Author.Rules.{rules}
-use Rattle.worked_examples.proofs.MarkedCases.{marked-cases-hold}
+use Rattle.worked_examples.proofs.MarkedCases.{marked_cases_hold}
 use Rattle.worked_examples.proofs.run_cases.Statement.{statement}
 use Rattle.worked_examples.proofs.run_cases.Tie as tie
 
@@ -14,7 +14,7 @@ run-requires-3 : tie.Need-run-requires-3
 run-requires-3 c κs = search rules
 
 returns : tie.Need-returns
-returns c = marked-cases-hold
+returns c = marked_cases_hold
 
 pub run-cases-spec : {M : Type 1} → statement M
 run-cases-spec = tie.close (tie.spec run-requires run-requires-2 run-requires-3 returns)

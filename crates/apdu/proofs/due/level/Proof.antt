@@ -1,29 +1,29 @@
--- The tests of `levelOf`, innermost first.
+-- The tests of `level_of`, innermost first.
 -- Assumes nothing.
 use borrow.Author.Tests.{eq-eqb, ne_eqb}
-use Rattle.apdu.specs.RowCounters.{levelOf}
+use Rattle.apdu.specs.RowCounters.{level_of}
 use native.Mathlib.Omega.{arith}
 use Rattle.apdu.proofs.due.level.Statement.{statement}
 use Rattle.apdu.proofs.due.level.Tie as tie
 
 returns : tie.Need-returns
-unfolding levelOf
+unfolding level_of
 returns c = (simp (ne_eqb _ _ c.if1.true), omega arith)
 
 returns-2 : tie.Need-returns-2
-unfolding levelOf
+unfolding level_of
 returns-2 c = (simp (ne_eqb _ _ c.if2.true, eq-eqb _ _ c.before.before.if1.false), omega arith)
 
 returns-3 : tie.Need-returns-3
-unfolding levelOf
+unfolding level_of
 returns-3 c = (simp (ne_eqb _ _ c.if3.true, eq-eqb _ _ c.before.before.if2.false, eq-eqb _ _ c.before.before.before.before.if1.false), omega arith)
 
 returns-4 : tie.Need-returns-4
-unfolding levelOf
+unfolding level_of
 returns-4 c = (simp (ne_eqb _ _ c.if4.true, eq-eqb _ _ c.before.before.if3.false, eq-eqb _ _ c.before.before.before.before.if2.false, eq-eqb _ _ c.before.before.before.before.before.before.if1.false), omega arith)
 
 returns-5 : tie.Need-returns-5
-unfolding levelOf
+unfolding level_of
 returns-5 c = (simp (eq-eqb _ _ c.if4.false, eq-eqb _ _ c.before.before.if3.false, eq-eqb _ _ c.before.before.before.before.if2.false, eq-eqb _ _ c.before.before.before.before.before.before.if1.false), omega arith)
 
 pub level-spec : {M : Type 1} → statement M

@@ -4,11 +4,11 @@ use Prim.Native.Nat.{◌+◌, ◌≤◌, ◌-◌}
 use mathlib.Core.Path.{◌∙◌}
 use mathlib.Core.Logic.{inl, inr, ⊎_elim}
 use native.Mathlib.Omega.{arith}
-use Rattle.apdu_reading.proofs.EntryLaws.{entry-alone}
+use Rattle.apdu_reading.proofs.EntryLaws.{entry_alone}
 use Rattle.apdu_reading.proofs.Stores.{Stored, Upto}
-use Rattle.apdu_reading.proofs.StoreLaws.{stored-none, stored_more, stored-all}
-use Rattle.apdu_reading.proofs.ListLaws.{list-ready, nothing_stored, both-whole, none_read, upto-ready, upto-more, upto-both}
-use Rattle.apdu_reading.proofs.FrontLaws.{message-told}
+use Rattle.apdu_reading.proofs.StoreLaws.{stored_none, stored_more, stored_all}
+use Rattle.apdu_reading.proofs.ListLaws.{list_ready, nothing_stored, both_whole, none_read, upto_ready, upto_more, upto_both}
+use Rattle.apdu_reading.proofs.FrontLaws.{message_told}
 use Rattle.apdu_reading.proofs.applications.application_lists.Statement.{statement}
 use Rattle.apdu_reading.proofs.applications.application_lists.Tie as tie
 
@@ -31,25 +31,25 @@ no-rows-requires : tie.Need-no-rows-requires invariant-loop2 decreases-loop2 inv
 no-rows-requires c κs = tt
 
 loop-holds : tie.Need-loop-init invariant-loop2 decreases-loop2 invariant-loop decreases-loop
-loop-holds c = none_read _ _ _ (nothing_stored _ c.no_rows.ensures c.before.no-entries.ensures c.before.before.before.before.requires.1.room)
+loop-holds c = none_read _ _ _ (nothing_stored _ c.no_rows.ensures c.before.no_entries_law.ensures c.before.before.before.before.requires.1.room)
 
 count-if-requires : tie.Need-count-if-requires invariant-loop2 decreases-loop2 invariant-loop decreases-loop
 count-if-requires c κs = c.before.before.before.before.before.before.before.requires.0
 
 add-mandatory : tie.Need-overflow-add-mandatory invariant-loop2 decreases-loop2 invariant-loop decreases-loop
-add-mandatory c = omega (arith, (upto-ready _ _ _ _ _ _ _ c.before.before.loop-test.true c.before.before.before.loop.invariant).1)
+add-mandatory c = omega (arith, (upto_ready _ _ _ _ _ _ _ c.before.before.loop-test.true c.before.before.before.loop.invariant).1)
 
 add-round : tie.Need-overflow-add-round invariant-loop2 decreases-loop2 invariant-loop decreases-loop
 add-round c = omega (arith, c.before.before.loop-test.true)
 
 loop2-holds : tie.Need-loop2-init invariant-loop2 decreases-loop2 invariant-loop decreases-loop
-loop2-holds c = let u = upto-ready _ _ _ _ _ _ _ c.before.before.loop-test.true c.before.before.before.loop.invariant in (stored-none _ _ _ (list-ready _ _ _ _ u.0 c.count-if.ensures), omega arith, omega (arith, u.1, c.count-if.ensures.small))
+loop2-holds c = let u = upto_ready _ _ _ _ _ _ _ c.before.before.loop-test.true c.before.before.before.loop.invariant in (stored_none _ _ _ (list_ready _ _ _ _ u.0 c.count-if.ensures), omega arith, omega (arith, u.1, c.count-if.ensures.small))
 
 loop-less : tie.Need-loop-smaller invariant-loop2 decreases-loop2 invariant-loop decreases-loop
 loop-less c = omega (arith, c.before.before.before.before.loop-test.true)
 
 loop-again : tie.Need-loop-preserved invariant-loop2 decreases-loop2 invariant-loop decreases-loop
-loop-again c = upto-more _ _ _ _ _ _ _ c.before.before.before.before.loop-test.true c.before.before.before.before.before.loop.invariant c.before.before.count-if.ensures (stored-all c.before.loop2.invariant.0 c.before.loop2.invariant.1 c.loop2-test.false)
+loop-again c = upto_more _ _ _ _ _ _ _ c.before.before.before.before.loop-test.true c.before.before.before.before.before.loop.invariant c.before.before.count-if.ensures (stored_all c.before.loop2.invariant.0 c.before.loop2.invariant.1 c.loop2-test.false)
 
 entry-head-requires : tie.Need-entry-head-requires invariant-loop2 decreases-loop2 invariant-loop decreases-loop
 entry-head-requires c κs = c.before.before.before.before.before.before.before.before.before.before.requires.0
@@ -70,7 +70,7 @@ loop2-less : tie.Need-loop2-smaller invariant-loop2 decreases-loop2 invariant-lo
 loop2-less c = omega (arith, c.before.before.before.before.before.loop2-test.true)
 
 loop2-again : tie.Need-loop2-preserved invariant-loop2 decreases-loop2 invariant-loop decreases-loop
-loop2-again c = (stored_more _ _ _ _ c.before.before.before.before.before.before.loop2.invariant.0 (entry-alone _ _ c.before.before.before.before.before.before.loop2.invariant.0.ready.free c.before.before.before.before.entry-head.ensures c.before.before.if1.true) (omega (arith, c.before.before.before.before.before.loop2-test.true, c.before.before.before.before.before.before.loop2.invariant.2)), omega (arith, c.before.before.before.before.before.loop2-test.true), c.before.before.before.before.before.before.loop2.invariant.2)
+loop2-again c = (stored_more _ _ _ _ c.before.before.before.before.before.before.loop2.invariant.0 (entry_alone _ _ c.before.before.before.before.before.before.loop2.invariant.0.ready.free c.before.before.before.before.entry-head.ensures c.before.before.if1.true) (omega (arith, c.before.before.before.before.before.loop2-test.true, c.before.before.before.before.before.before.loop2.invariant.2)), omega (arith, c.before.before.before.before.before.loop2-test.true), c.before.before.before.before.before.before.loop2.invariant.2)
 
 with-rows-requires : tie.Need-with-rows-requires invariant-loop2 decreases-loop2 invariant-loop decreases-loop
 with-rows-requires c κs = (c.before.before.before.before.before.before.before.before.before.before.before.before.before.before.requires.0, c.before.before.before.before.before.loop2.invariant.0.ready.free, c.before.before.before.entry-head.ensures, omega (arith, c.before.if1.false))
@@ -103,7 +103,7 @@ place-of-requires : tie.Need-place-of-requires invariant-loop2 decreases-loop2 i
 place-of-requires c κs = tt
 
 returns : tie.Need-returns invariant-loop2 decreases-loop2 invariant-loop decreases-loop
-returns c = message-told _ c.before.before.before.before.before.before.before.before.before.before.before.before.requires.0 _ (c.before.before.before.before.before.link-end.ensures.whole (both-whole _ _ _ (upto-both _ _ _ _ _ _ _ c.before.before.before.before.before.before.loop-test.false c.before.before.before.before.before.before.before.loop.invariant))) c.before.before.before.before.ended.ensures c.before.answer-of.ensures c.place_of.ensures (⊎_elim (λ w. inl (w.0.taken, w.2 ∙ w.1.ensures)) (λ w. inr (w.0.left, w.1)) c.before.before.if2.branch)
+returns c = message_told _ c.before.before.before.before.before.before.before.before.before.before.before.before.requires.0 _ (c.before.before.before.before.before.link-end.ensures.whole (both_whole _ _ _ (upto_both _ _ _ _ _ _ _ c.before.before.before.before.before.before.loop-test.false c.before.before.before.before.before.before.before.loop.invariant))) c.before.before.before.before.ended.ensures c.before.answer-of.ensures c.place_of.ensures (⊎_elim (λ w. inl (w.0.taken, w.2 ∙ w.1.ensures)) (λ w. inr (w.0.left, w.1)) c.before.before.if2.branch)
 
 pub application-lists-spec : {M : Type 1} → statement M
 application-lists-spec = tie.close (tie.spec invariant-loop2 decreases-loop2 invariant-loop decreases-loop no-entries-requires no-rows-requires loop-holds count-if-requires add-mandatory add-round loop2-holds loop-less loop-again entry-head-requires add-place add-i mul-entry element-set-from-entry loop2-less loop2-again with-rows-requires mul-entry-2 element-set-from-entry-2 loop2-less-2 loop2-again-2 link-end-requires ended-requires cleared-requires answer-of-requires place-of-requires returns)

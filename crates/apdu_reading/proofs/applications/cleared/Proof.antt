@@ -10,7 +10,7 @@ no-rows-requires : tie.Need-no-rows-requires
 no-rows-requires c κs = tt
 
 returns : tie.Need-returns
-returns c = rw (c.no_rows.ensures, c.before.no-entries.ensures)
+returns c = rw (c.no_rows.ensures, c.before.no_entries_law.ensures)
 
 pub cleared-spec : {M : Type 1} → statement M
 cleared-spec = tie.close (tie.spec no-entries-requires no-rows-requires returns)

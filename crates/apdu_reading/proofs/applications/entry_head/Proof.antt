@@ -1,7 +1,7 @@
 -- The octet, and what its bits say is there.
 -- Assumes nothing.
-use Rattle.apdu_reading.proofs.Places.{maybe-place}
-use Rattle.apdu_reading.proofs.EntryLaws.{entry-opens}
+use Rattle.apdu_reading.proofs.Places.{maybe_place}
+use Rattle.apdu_reading.proofs.EntryLaws.{entry_opens}
 use borrow.Author.Rules.{rules}
 use Rattle.apdu_reading.proofs.applications.entry_head.Statement.{statement}
 use Rattle.apdu_reading.proofs.applications.entry_head.Tie as tie
@@ -36,7 +36,7 @@ place-requires c κs = search rules
 returns : tie.Need-returns
 returns c =
     let short = c.before.before.before.before.before.before.before.before.before.before.before.before.before.requires in
-    entry-opens _ _ c.before.before.before.before.before.before.before.before.before.before.before.entry-octet.ensures.0 c.before.before.before.before.before.before.before.before.before.before.before.entry-octet.ensures.1 c.before.before.before.before.before.before.before.before.integer-if.ensures (maybe-place short c.place.ensures c.before.before.before.before.before.before.before.container-if.ensures) c.before.before.before.before.before.before.announces.ensures
+    entry_opens _ _ c.before.before.before.before.before.before.before.before.before.before.before.entry-octet.ensures.0 c.before.before.before.before.before.before.before.before.before.before.before.entry-octet.ensures.1 c.before.before.before.before.before.before.before.before.integer-if.ensures (maybe_place short c.place.ensures c.before.before.before.before.before.before.before.container-if.ensures) c.before.before.before.before.before.before.announces.ensures
 
 pub entry-head-spec : {M : Type 1} → statement M
 entry-head-spec = tie.close (tie.spec entry-octet-requires integer-if-requires container-if-requires announces-requires cast-t13 cast-t14 cast-t15 cast-t16 place-requires returns)

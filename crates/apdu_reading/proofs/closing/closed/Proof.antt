@@ -1,7 +1,7 @@
 -- Each kind by its own record.
 -- Assumes nothing.
 use borrow.Author.Rules.{rules}
-use Rattle.apdu_reading.specs.Messages.{closedBy}
+use Rattle.apdu_reading.specs.Messages.{closed_by}
 use Rattle.apdu_reading.proofs.closing.closed.Statement.{statement}
 use Rattle.apdu_reading.proofs.closing.closed.Tie as tie
 
@@ -51,43 +51,43 @@ enum-told-5 : tie.Need-enum-told-5
 enum-told-5 c = search rules
 
 returns : tie.Need-returns
-unfolding closedBy
+unfolding closed_by
 returns c = rw (c.request-closed.ensures, c.before.before.m.given.1)
 
 returns-2 : tie.Need-returns-2
-unfolding closedBy
+unfolding closed_by
 returns-2 c = rw (c.action-response-closed.ensures, c.before.before.m2.given.1)
 
 returns-3 : tie.Need-returns-3
-unfolding closedBy
+unfolding closed_by
 returns-3 c = rw (c.request-closed2.ensures, c.before.before.m3.given.1)
 
 returns-4 : tie.Need-returns-4
-unfolding closedBy
+unfolding closed_by
 returns-4 c = rw (c.set-request-closed.ensures, c.before.before.m4.given.1)
 
 returns-5 : tie.Need-returns-5
-unfolding closedBy
+unfolding closed_by
 returns-5 c = rw (c.get-response-closed.ensures, c.before.before.m5.given.1)
 
 returns-6 : tie.Need-returns-6
-unfolding closedBy
+unfolding closed_by
 returns-6 c = rw c.enum_told.given.1
 
 returns-7 : tie.Need-returns-7
-unfolding closedBy
+unfolding closed_by
 returns-7 c = rw c.enum-told2.given.1
 
 returns-8 : tie.Need-returns-8
-unfolding closedBy
+unfolding closed_by
 returns-8 c = rw c.enum-told3.given.1
 
 returns-9 : tie.Need-returns-9
-unfolding closedBy
+unfolding closed_by
 returns-9 c = rw c.enum-told4.given.1
 
 returns-10 : tie.Need-returns-10
-unfolding closedBy
+unfolding closed_by
 returns-10 c = rw c.enum-told5.given.1
 
 pub closed-spec : {M : Type 1} → statement M

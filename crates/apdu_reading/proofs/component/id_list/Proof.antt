@@ -2,7 +2,7 @@
 -- Assumes nothing.
 use Prim.Native.Nat.{◌≤◌, ◌-◌}
 use native.Mathlib.Nat.{le_antisymm}
-use Rattle.apdu_reading.proofs.Strings.{Ids, ids-none, ids_more, list-by}
+use Rattle.apdu_reading.proofs.Strings.{Ids, ids_none, ids_more, list_by}
 use borrow.Author.Rules.{rules}
 use native.Mathlib.Omega.{arith}
 use Rattle.apdu_reading.proofs.component.id_list.Statement.{statement}
@@ -18,7 +18,7 @@ count-requires : tie.Need-count-requires invariant-loop decreases-loop
 count-requires c κs = search rules
 
 loop-holds : tie.Need-loop-init invariant-loop decreases-loop
-loop-holds c = (ids-none _ _, omega arith)
+loop-holds c = (ids_none _ _, omega arith)
 
 integer-requires : tie.Need-integer-requires invariant-loop decreases-loop
 integer-requires c κs = search rules
@@ -36,7 +36,7 @@ marked-requires : tie.Need-marked-requires invariant-loop decreases-loop
 marked-requires c κs = tt
 
 returns : tie.Need-returns invariant-loop decreases-loop
-returns c = list-by _ _ c.before.before.before.count.ensures.0 _ c.before.before.loop.invariant.0 (le_antisymm c.before.before.loop.invariant.1 c.before.loop-test.false) c.marked.ensures c.before.before.before.count.ensures.2
+returns c = list_by _ _ c.before.before.before.count.ensures.0 _ c.before.before.loop.invariant.0 (le_antisymm c.before.before.loop.invariant.1 c.before.loop-test.false) c.marked.ensures c.before.before.before.count.ensures.2
 
 pub id-list-spec : {M : Type 1} → statement M
 id-list-spec =

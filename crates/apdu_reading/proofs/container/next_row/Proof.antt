@@ -1,6 +1,6 @@
 -- The next row is an integer and a container at the depth of the innermost list.
 -- Assumes nothing.
-use Rattle.apdu_reading.proofs.Places.{opens-place}
+use Rattle.apdu_reading.proofs.Places.{opens_place}
 use Rattle.apdu_reading.proofs.Walk.{next}
 use borrow.Author.Rules.{rules}
 use Rattle.apdu_reading.proofs.container.next_row.Statement.{statement}
@@ -36,7 +36,7 @@ place-requires c κs = search rules
 returns : tie.Need-returns
 returns c =
     let short = c.before.before.before.before.before.before.before.before.before.before.before.requires.0 in
-    next _ _ _ c.before.before.before.before.before.before.before.before.before.before.before.requires.1 c.before.before.before.before.before.before.before.before.before.integer.ensures c.before.before.before.before.before.before.before.before.level.ensures.0 (opens-place short c.place.ensures c.before.before.before.before.before.before.before.container.ensures) c.before.before.before.before.before.before.announces.ensures c.before.before.before.before.before.after-row.ensures
+    next _ _ _ c.before.before.before.before.before.before.before.before.before.before.before.requires.1 c.before.before.before.before.before.before.before.before.before.integer.ensures c.before.before.before.before.before.before.before.before.level.ensures.0 (opens_place short c.place.ensures c.before.before.before.before.before.before.before.container.ensures) c.before.before.before.before.before.before.announces.ensures c.before.before.before.before.before.after-row.ensures
 
 pub next-row-spec : {M : Type 1} → statement M
 next-row-spec = tie.close (tie.spec integer-requires level-requires container-requires announces-requires after-row-requires cast-t11 cast-t12 cast-t13 place-requires returns)

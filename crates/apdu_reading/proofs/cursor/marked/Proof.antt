@@ -1,5 +1,5 @@
 use mathlib.Core.Path.{refl}
-use Rattle.apdu_reading.specs.Cursor.{markedAt}
+use Rattle.apdu_reading.specs.Cursor.{marked_at}
 use Rattle.apdu_reading.proofs.cursor.marked.Statement.{statement}
 use Rattle.apdu_reading.proofs.cursor.marked.Tie as tie
 use Rattle.apdu_reading.proofs.cursor.marked.Reads as reads
@@ -7,7 +7,7 @@ use Rattle.apdu_reading.proofs.cursor.marked.Lts as lts
 
 -- src/cursor.rt:77:1
 returns : tie.Need-returns
-unfolding markedAt
+unfolding marked_at
 returns c = refl
 
 pub marked-spec : {M : Type 1} → statement M

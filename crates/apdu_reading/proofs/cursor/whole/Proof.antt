@@ -2,8 +2,8 @@
 -- Assumes nothing.
 use mathlib.Core.Path.{refl}
 use Prim.Native.Nat.{◌+◌, ◌/◌}
-use Rattle.bits.proofs.Aligned.{read-octet, read-two}
-use Rattle.apdu_reading.proofs.Pieces.{by-stopped, by-cut, by-begins}
+use Rattle.bits.proofs.Aligned.{read_octet, read_two}
+use Rattle.apdu_reading.proofs.Pieces.{by_stopped, by_cut, by_begins}
 use native.Mathlib.Omega.{arith}
 use Rattle.apdu_reading.proofs.cursor.whole.Statement.{statement}
 use Rattle.apdu_reading.proofs.cursor.whole.Tie as tie
@@ -12,7 +12,7 @@ faulty-requires : tie.Need-faulty-requires
 faulty-requires c κs = tt
 
 returns : tie.Need-returns
-returns c = by-stopped _ _ _ _ c.before.if1.true c.faulty.ensures
+returns c = by_stopped _ _ _ _ c.before.if1.true c.faulty.ensures
 
 add-if2 : tie.Need-overflow-add-if2
 add-if2 c = omega arith
@@ -24,7 +24,7 @@ faulty-requires-2 : tie.Need-faulty-requires-2
 faulty-requires-2 c κs = tt
 
 returns-2 : tie.Need-returns-2
-returns-2 c = by-cut _ _ _ _ c.before.before.if1.false c.faulty2.ensures (omega arith)
+returns-2 c = by_cut _ _ _ _ c.before.before.if1.false c.faulty2.ensures (omega arith)
 
 shared-slice-read-moved : tie.Need-shared-slice-read-moved
 shared-slice-read-moved c = omega arith
@@ -38,8 +38,8 @@ moved-requires c κs = omega arith
 returns-3 : tie.Need-returns-3
 returns-3 c =
     let i = c.before.before.before.before.before.before.before.args.c.at / 8 in
-    by-begins _ _ _ _ c.before.before.before.before.if1.false refl
-    (read-octet _ _ 8 refl c.before.before.if3.true refl (c.before.shared-slice-known2.given i).fits) c.moved.ensures (omega arith)
+    by_begins _ _ _ _ c.before.before.before.before.if1.false refl
+    (read_octet _ _ 8 refl c.before.before.if3.true refl (c.before.shared-slice-known2.given i).fits) c.moved.ensures (omega arith)
 
 shared-slice-read-two : tie.Need-shared-slice-read-two
 shared-slice-read-two c = omega arith
@@ -76,8 +76,8 @@ moved-requires-2 c κs = omega arith
 returns-4 : tie.Need-returns-4
 returns-4 c =
     let i = c.before.before.before.before.before.before.before.before.args.c.at / 8 in
-    by-begins _ _ _ _ c.before.before.before.before.before.if1.false refl
-    (read-two _ _ refl (c.before.before.shared-slice-known3.given i).fits refl (c.before.shared-slice-known4.given (i + 1)).fits refl)
+    by_begins _ _ _ _ c.before.before.before.before.before.if1.false refl
+    (read_two _ _ refl (c.before.before.shared-slice-known3.given i).fits refl (c.before.shared-slice-known4.given (i + 1)).fits refl)
     c.moved2.ensures (omega arith)
 
 pub whole-spec : {M : Type 1} → statement M

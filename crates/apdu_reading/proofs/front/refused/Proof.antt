@@ -12,7 +12,7 @@ no-rows-requires c κs = tt
 
 returns : tie.Need-returns
 unfolding refusal
-returns c = rw (c.no_rows.ensures, c.before.no-entries.ensures)
+returns c = rw (c.no_rows.ensures, c.before.no_entries_law.ensures)
 
 pub refused-spec : {M : Type 1} → statement M
 refused-spec = tie.close (tie.spec no-entries-requires no-rows-requires returns)

@@ -3,7 +3,7 @@
 use Prim.Native.Nat.{◌≤◌, ◌-◌}
 use lib.Dec.{eqb}
 use Rattle.refusals.specs.Check.{pick}
-use Rattle.apdu_reading.proofs.Fill.{Held, held_none, stopped-rows, some-due, few, again, less, less-stop, done}
+use Rattle.apdu_reading.proofs.Fill.{Held, held_none, stopped_rows, some_due, few, again, less, less_stop, done}
 use native.Mathlib.Omega.{arith}
 use Rattle.apdu_reading.proofs.rows.fill.Statement.{statement}
 use Rattle.apdu_reading.proofs.rows.fill.Tie as tie
@@ -21,7 +21,7 @@ wants-requires : tie.Need-wants-requires invariant-loop decreases-loop
 wants-requires c κs = tt
 
 next-row-requires : tie.Need-next-row-requires invariant-loop decreases-loop
-next-row-requires c κs = (c.before.before.before.before.before.before.requires.0, some-due _ _ _ _ _ c.before.before.loop.invariant.0 c.before.wants.ensures c.if1.true)
+next-row-requires c κs = (c.before.before.before.before.before.before.requires.0, some_due _ _ _ _ _ c.before.before.loop.invariant.0 c.before.wants.ensures c.if1.true)
 
 mul-rows : tie.Need-overflow-mul-rows invariant-loop decreases-loop
 mul-rows c = let k = few _ _ _ _ _ c.before.before.before.before.before.before.before.before.loop.invariant.0 c.before.before.before.before.before.before.before.wants.ensures c.before.before.before.before.before.before.if1.true in omega arith
@@ -39,10 +39,10 @@ loop-again : tie.Need-loop-preserved invariant-loop decreases-loop
 loop-again c = (again _ _ _ _ _ c.before.before.before.before.before.before.before.before.loop.invariant.0 c.before.before.before.before.before.before.before.wants.ensures c.before.before.before.before.before.before.if1.true _ c.before.before.before.before.before.next_row.ensures c.if2.true, let k = few _ _ _ _ _ c.before.before.before.before.before.before.before.before.loop.invariant.0 c.before.before.before.before.before.before.before.wants.ensures c.before.before.before.before.before.before.if1.true in omega arith)
 
 loop-less-2 : tie.Need-loop-smaller-2 invariant-loop decreases-loop
-loop-less-2 c = less-stop _ _ _ _ _ c.before.before.before.before.before.before.before.before.loop.invariant.0 c.before.before.before.before.before.before.before.wants.ensures c.before.before.before.before.before.before.if1.true _ c.if2.false
+loop-less-2 c = less_stop _ _ _ _ _ c.before.before.before.before.before.before.before.before.loop.invariant.0 c.before.before.before.before.before.before.before.wants.ensures c.before.before.before.before.before.before.if1.true _ c.if2.false
 
 loop-again-2 : tie.Need-loop-preserved-2 invariant-loop decreases-loop
-loop-again-2 c = (stopped-rows _ _ _ _ _ c.before.before.before.before.before.before.before.before.loop.invariant.0 _ c.before.before.before.before.before.next_row.ensures c.if2.false, c.before.before.before.before.before.before.before.before.loop.invariant.1)
+loop-again-2 c = (stopped_rows _ _ _ _ _ c.before.before.before.before.before.before.before.before.loop.invariant.0 _ c.before.before.before.before.before.next_row.ensures c.if2.false, c.before.before.before.before.before.before.before.before.loop.invariant.1)
 
 returns : tie.Need-returns invariant-loop decreases-loop
 returns c = done _ _ _ _ _ c.before.before.loop.invariant.0 c.before.wants.ensures c.before.before.loop.invariant.1 c.if1.false

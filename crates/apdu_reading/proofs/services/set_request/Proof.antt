@@ -1,6 +1,6 @@
 -- The leading bits, then eid, credentials and the count of the attribute list.
 -- Assumes nothing.
-use Rattle.apdu_reading.proofs.ServiceMessages.{set-request-opens}
+use Rattle.apdu_reading.proofs.ServiceMessages.{set_request_opens}
 use Rattle.apdu_reading.proofs.services.set_request.Statement.{statement}
 use Rattle.apdu_reading.proofs.services.set_request.Tie as tie
 
@@ -29,7 +29,7 @@ attributes-if-requires : tie.Need-attributes-if-requires
 attributes-if-requires c κs = c.before.before.before.before.before.before.before.before.requires.0
 
 returns : tie.Need-returns
-returns c = set-request-opens _ _ c.before.before.before.before.before.before.before.before.before.requires.1 c.before.before.before.before.before.before.before.piece.ensures.0 _ c.before.before.before.before.before.before.flag.ensures c.before.before.before.before.before.flag2.ensures c.before.before.before.before.read-field.ensures c.before.before.before.flag3.ensures c.before.before.integer.ensures c.before.string-if.ensures c.attributes-if.ensures c.before.before.before.before.before.before.before.before.before.requires.2
+returns c = set_request_opens _ _ c.before.before.before.before.before.before.before.before.before.requires.1 c.before.before.before.before.before.before.before.piece.ensures.0 _ c.before.before.before.before.before.before.flag.ensures c.before.before.before.before.before.flag2.ensures c.before.before.before.before.read-field.ensures c.before.before.before.flag3.ensures c.before.before.integer.ensures c.before.string-if.ensures c.attributes-if.ensures c.before.before.before.before.before.before.before.before.before.requires.2
 
 pub set-request-spec : {M : Type 1} → statement M
 set-request-spec = tie.close (tie.spec piece-requires flag-requires flag-requires-2 read-field-requires flag-requires-3 integer-requires string-if-requires attributes-if-requires returns)

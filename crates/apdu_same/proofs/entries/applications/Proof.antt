@@ -5,17 +5,17 @@ use Prim.Native.Nat.{◌≤◌, ◌-◌, ◌+◌, ◌*◌}
 use mathlib.Core.Path.{◌≡◌, sym, ◌∙◌}
 use mathlib.Core.Logic.{⊎_elim}
 use lib.ListN.{length, take, drop}
-use Rattle.apdu.specs.Values.{emptyEntry}
-use Rattle.apdu.proofs.Tables.{long, part_length, part-place}
-use Rattle.apdu_same.specs.Walk.{sameEntries}
-use Rattle.apdu_same.proofs.EntryLists.{EntriesLeft, entries-all, entries_none, entry_other, entry-passed, rows_same, rows_other}
+use Rattle.apdu.specs.Values.{empty_entry}
+use Rattle.apdu.proofs.Tables.{long, part_length, part_place}
+use Rattle.apdu_same.specs.Walk.{same_entries}
+use Rattle.apdu_same.proofs.EntryLists.{EntriesLeft, entries_all, entries_none, entry_other, entry_passed, rows_same, rows_other}
 use Rattle.apdu_same.proofs.entries.applications.Statement.{statement}
 use Rattle.apdu_same.proofs.entries.applications.Tie as tie
 
 abbrev invariant-loop : tie.invariant-loop
 invariant-loop s table first t others at from n list other k used₀ gone₀ i₀ used gone i =
     (i ≤ k) × (k ≡ length (take n (drop from list))) × (k ≡ length (take n (drop from other))) × (k ≤ 32) × (used ≤ used₀ + 255 * i) × (gone ≤ gone₀ + 255 * i)
-    × (sameEntries s (take n (drop from list)) (drop used₀ table) t (take n (drop from other)) (drop gone₀ others)
+    × (same_entries s (take n (drop from list)) (drop used₀ table) t (take n (drop from other)) (drop gone₀ others)
     ≡ EntriesLeft s (take n (drop from list)) table t (take n (drop from other)) others i used gone)
 
 abbrev decreases-loop : tie.decreases-loop
@@ -30,7 +30,7 @@ loop-holds c =
     let t : length a.args.t2 ≡ 32 = search (long, a.well-formed.1.0.1) in
     let u : length a.args.t6 ≡ 32 = search (long, a.well-formed.1.1.1.1.1.0.1) in
     let k = c.clamped.ensures in
-    (omega arith, part_length _ a.args.from a.args.n t k.0, part_length _ a.args.from a.args.n u k.0, omega arith, omega arith, omega arith, entries-all _ _ _ _ _ _ _ _)
+    (omega arith, part_length _ a.args.from a.args.n t k.0, part_length _ a.args.from a.args.n u k.0, omega arith, omega arith, omega arith, entries_all _ _ _ _ _ _ _ _)
 
 add-e : tie.Need-overflow-add-e invariant-loop decreases-loop
 add-e c = omega arith
@@ -58,7 +58,7 @@ returns c =
     let l = c.before.before.before.before.before.loop in
     let h = c.before.before.before.before.loop-test.true in
     let a = c.before.before.before.before.before.before.before.before.before.args in
-    sym (l.invariant.6 ∙ entry_other _ _ _ _ _ _ l.i l.used l.gone (part-place emptyEntry a.t2 a.from a.n l.i l.invariant.1 h) (part-place emptyEntry a.t6 a.from a.n l.i l.invariant.2 h) (omega arith) (omega arith) c.before.entry.ensures c.if1.true)
+    sym (l.invariant.6 ∙ entry_other _ _ _ _ _ _ l.i l.used l.gone (part_place empty_entry a.t2 a.from a.n l.i l.invariant.1 h) (part_place empty_entry a.t6 a.from a.n l.i l.invariant.2 h) (omega arith) (omega arith) c.before.entry.ensures c.if1.true)
 
 entry-rows-requires : tie.Need-entry-rows-requires invariant-loop decreases-loop
 entry-rows-requires c κs = tt
@@ -77,7 +77,7 @@ returns-2 c =
     let l = c.before.before.before.before.before.before.before.before.before.before.before.loop in
     let h = c.before.before.before.before.before.before.before.before.before.before.loop-test.true in
     let a = c.before.before.before.before.before.before.before.before.before.before.before.before.before.before.before.args in
-    sym (l.invariant.6 ∙ rows_other _ _ _ _ _ _ l.i l.used l.gone (part-place emptyEntry a.t2 a.from a.n l.i l.invariant.1 h) (part-place emptyEntry a.t6 a.from a.n l.i l.invariant.2 h) (omega arith) (omega arith) c.before.before.before.before.before.before.before.entry.ensures c.before.before.before.before.before.before.if1.false c.before.before.before.before.before.entry-rows.ensures.0 c.before.before.before.before.entry-rows2.ensures.0 c.before.before.before.lists-rows.ensures c.before.before.if2.true c.before.rows.ensures c.if3.true)
+    sym (l.invariant.6 ∙ rows_other _ _ _ _ _ _ l.i l.used l.gone (part_place empty_entry a.t2 a.from a.n l.i l.invariant.1 h) (part_place empty_entry a.t6 a.from a.n l.i l.invariant.2 h) (omega arith) (omega arith) c.before.before.before.before.before.before.before.entry.ensures c.before.before.before.before.before.before.if1.false c.before.before.before.before.before.entry-rows.ensures.0 c.before.before.before.before.entry-rows2.ensures.0 c.before.before.before.lists-rows.ensures c.before.before.if2.true c.before.rows.ensures c.if3.true)
 
 add-used : tie.Need-overflow-add-used invariant-loop decreases-loop
 add-used c = omega (arith, c.before.before.before.entry-rows.ensures.1, c.before.before.before.before.before.before.before.before.before.loop.invariant, c.before.before.before.before.before.before.before.before.before.before.before.before.before.requires)
@@ -106,8 +106,8 @@ loop-again c =
       omega (arith, theirs.1),
       l.invariant.6
           ∙ ⊎_elim
-          (λ x. rows_same _ _ _ _ _ _ l.i l.used l.gone (part-place emptyEntry a.t2 a.from a.n l.i l.invariant.1 h) (part-place emptyEntry a.t6 a.from a.n l.i l.invariant.2 h) (omega arith) (omega arith) c.before.before.before.before.before.entry.ensures c.before.before.before.before.if1.false own.0 theirs.0 c.before.lists-rows.ensures x.0.taken x.1.ensures x.2.left)
-          (λ x. entry-passed _ _ _ _ _ _ l.i l.used l.gone (part-place emptyEntry a.t2 a.from a.n l.i l.invariant.1 h) (part-place emptyEntry a.t6 a.from a.n l.i l.invariant.2 h) (omega arith) (omega arith) c.before.before.before.before.before.entry.ensures c.before.before.before.before.if1.false own.0 theirs.0 c.before.lists-rows.ensures x.left) c.if2.branch,
+          (λ x. rows_same _ _ _ _ _ _ l.i l.used l.gone (part_place empty_entry a.t2 a.from a.n l.i l.invariant.1 h) (part_place empty_entry a.t6 a.from a.n l.i l.invariant.2 h) (omega arith) (omega arith) c.before.before.before.before.before.entry.ensures c.before.before.before.before.if1.false own.0 theirs.0 c.before.lists-rows.ensures x.0.taken x.1.ensures x.2.left)
+          (λ x. entry_passed _ _ _ _ _ _ l.i l.used l.gone (part_place empty_entry a.t2 a.from a.n l.i l.invariant.1 h) (part_place empty_entry a.t6 a.from a.n l.i l.invariant.2 h) (omega arith) (omega arith) c.before.before.before.before.before.entry.ensures c.before.before.before.before.if1.false own.0 theirs.0 c.before.lists-rows.ensures x.left) c.if2.branch,
     )
 
 returns-3 : tie.Need-returns-3 invariant-loop decreases-loop

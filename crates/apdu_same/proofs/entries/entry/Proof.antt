@@ -1,7 +1,7 @@
 -- The first octets are compared, then the eids, and then the containers.
 -- Assumes nothing.
-use Rattle.apdu_same.proofs.Outcomes.{if-there, if-passed}
-use Rattle.apdu_same.proofs.EntryLists.{entry-by}
+use Rattle.apdu_same.proofs.Outcomes.{if_there, if_passed}
+use Rattle.apdu_same.proofs.EntryLists.{entry_by}
 use borrow.Author.Rules.{rules}
 use Rattle.apdu_same.proofs.entries.entry.Statement.{statement}
 use Rattle.apdu_same.proofs.entries.entry.Tie as tie
@@ -44,12 +44,12 @@ head-requires c κs = search rules
 
 returns : tie.Need-returns
 returns c =
-    entry-by _ _ _ _ c.before.before.before.before.before.before.before.before.before.before.before.before.before.before.before.flag.ensures c.before.before.before.before.before.before.before.before.before.before.before.before.before.before.flag2.ensures c.before.before.before.before.before.before.before.before.before.number-if.ensures
-    (if-there _ _ c.before.before.before.before.before.before.before.if1.true c.head.ensures)
+    entry_by _ _ _ _ c.before.before.before.before.before.before.before.before.before.before.before.before.before.before.before.flag.ensures c.before.before.before.before.before.before.before.before.before.before.before.before.before.before.flag2.ensures c.before.before.before.before.before.before.before.before.before.number-if.ensures
+    (if_there _ _ c.before.before.before.before.before.before.before.if1.true c.head.ensures)
 
 returns-2 : tie.Need-returns-2
 returns-2 c =
-    entry-by _ _ _ _ c.before.before.before.before.before.before.before.before.flag.ensures c.before.before.before.before.before.before.before.flag2.ensures c.before.before.number-if.ensures (if-passed _ _ _ c.if1.false)
+    entry_by _ _ _ _ c.before.before.before.before.before.before.before.before.flag.ensures c.before.before.before.before.before.before.before.flag2.ensures c.before.before.number-if.ensures (if_passed _ _ _ c.if1.false)
 
 pub entry_spec : {M : Type 1} → statement M
 entry_spec =

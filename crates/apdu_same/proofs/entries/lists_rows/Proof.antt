@@ -1,7 +1,7 @@
 -- What it computes is the definition.
 -- Assumes nothing.
 use borrow.Author.Rules.{rules}
-use Rattle.apdu_same.specs.Walk.{listsRows}
+use Rattle.apdu_same.specs.Walk.{lists_rows}
 use Rattle.apdu_same.proofs.entries.lists_rows.Statement.{statement}
 use Rattle.apdu_same.proofs.entries.lists_rows.Tie as tie
 
@@ -9,7 +9,7 @@ cast-result : tie.Need-overflow-cast-result
 cast-result c = search rules
 
 returns : tie.Need-returns
-unfolding listsRows
+unfolding lists_rows
 returns c = search rules
 
 pub lists-rows-spec : {M : Type 1} → statement M

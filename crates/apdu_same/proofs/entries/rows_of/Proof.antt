@@ -6,7 +6,7 @@ use mathlib.Core.Path.{◌≡◌, refl}
 use lib.ListN.{length, take}
 use Rattle.apdu.specs.Values.{rows_of}
 use Rattle.apdu.proofs.Tables.{long}
-use Rattle.apdu_same.proofs.EntryLists.{rows-none-yet, rows_more, rows_whole}
+use Rattle.apdu_same.proofs.EntryLists.{rows_none_yet, rows_more, rows_whole}
 use Rattle.apdu_same.proofs.entries.rows_of.Statement.{statement}
 use Rattle.apdu_same.proofs.entries.rows_of.Tie as tie
 
@@ -20,7 +20,7 @@ clamped-requires : tie.Need-clamped-requires invariant-loop decreases-loop
 clamped-requires c κs = tt
 
 loop-holds : tie.Need-loop-init invariant-loop decreases-loop
-loop-holds c = (omega arith, omega arith, rows-none-yet c.before.args.t1)
+loop-holds c = (omega arith, omega arith, rows_none_yet c.before.args.t1)
 
 mul-e : tie.Need-overflow-mul-e invariant-loop decreases-loop
 mul-e c = omega arith

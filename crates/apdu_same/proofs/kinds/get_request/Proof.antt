@@ -1,9 +1,9 @@
 -- Where the leading parts agree, the rest is compared piece by piece.
 -- Assumes nothing.
 use mathlib.Core.Path.{refl}
-use Rattle.apdu.specs.Values.{getRequestValues}
-use Rattle.apdu_same.proofs.Agreement.{lead-more, lead-last, other}
-use Rattle.apdu_same.proofs.Records.{get-request-same}
+use Rattle.apdu.specs.Values.{get_request_values}
+use Rattle.apdu_same.proofs.Agreement.{lead_more, lead_last, other}
+use Rattle.apdu_same.proofs.Records.{get_request_same}
 use borrow.Author.Rules.{rules}
 use Rattle.apdu_same.proofs.kinds.get_request.Statement.{statement}
 use Rattle.apdu_same.proofs.kinds.get_request.Tie as tie
@@ -18,8 +18,8 @@ flag-requires-3 : tie.Need-flag-requires-3
 flag-requires-3 c κs = search rules
 
 returns : tie.Need-returns
-unfolding getRequestValues
-returns c = other (lead-more c.before.before.before.before.before.flag.ensures (lead-more c.before.before.before.before.flag2.ensures (lead-more c.before.before.before.flag3.ensures (lead-last _ _ refl)))) c.if1.true
+unfolding get_request_values
+returns c = other (lead_more c.before.before.before.before.before.flag.ensures (lead_more c.before.before.before.before.flag2.ensures (lead_more c.before.before.before.flag3.ensures (lead_last _ _ refl)))) c.if1.true
 
 part-if-requires : tie.Need-part-if-requires
 part-if-requires c κs = search rules
@@ -32,7 +32,7 @@ part-if-requires-2 c κs = search rules
 
 returns-2 : tie.Need-returns-2
 returns-2 c =
-    get-request-same _ _ _ _ (lead-more c.before.before.before.before.before.before.before.before.before.before.flag.ensures (lead-more c.before.before.before.before.before.before.before.before.before.flag2.ensures (lead-more c.before.before.before.before.before.before.before.before.flag3.ensures (lead-last _ _ refl)))) c.before.before.before.before.before.if1.false c.before.before.part-if.ensures c.before.number-if.ensures c.part-if2.ensures
+    get_request_same _ _ _ _ (lead_more c.before.before.before.before.before.before.before.before.before.before.flag.ensures (lead_more c.before.before.before.before.before.before.before.before.before.flag2.ensures (lead_more c.before.before.before.before.before.before.before.before.flag3.ensures (lead_last _ _ refl)))) c.before.before.before.before.before.if1.false c.before.before.part-if.ensures c.before.number-if.ensures c.part-if2.ensures
 
 pub get-request-spec : {M : Type 1} → statement M
 get-request-spec =

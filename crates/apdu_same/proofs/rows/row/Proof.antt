@@ -1,14 +1,14 @@
 -- The ids are compared, and then the containers.
 -- Assumes nothing.
-use Rattle.apdu_same.specs.Walk.{sameRow}
-use Rattle.apdu_same.proofs.Outcomes.{count-other, count_same}
+use Rattle.apdu_same.specs.Walk.{same_row}
+use Rattle.apdu_same.proofs.Outcomes.{count_other, count_same}
 use borrow.Author.Rules.{rules}
 use Rattle.apdu_same.proofs.rows.row.Statement.{statement}
 use Rattle.apdu_same.proofs.rows.row.Tie as tie
 
 returns : tie.Need-returns
-unfolding sameRow
-returns c = count-other _ _ _ c.if1.true
+unfolding same_row
+returns c = count_other _ _ _ c.if1.true
 
 cast-head : tie.Need-overflow-cast-head
 cast-head c = search rules
@@ -32,7 +32,7 @@ head-requires : tie.Need-head-requires
 head-requires c κs = search rules
 
 returns-2 : tie.Need-returns-2
-unfolding sameRow
+unfolding same_row
 returns-2 c = count_same _ _ c.before.before.before.before.before.before.before.if1.false c.head.ensures
 
 pub row-spec : {M : Type 1} → statement M

@@ -4,10 +4,10 @@ use native.Mathlib.Omega.{arith}
 use Prim.Native.Nat.{◌≤◌, ◌-◌}
 use mathlib.Core.Path.{◌≡◌, sym, ◌∙◌}
 use lib.ListN.{length, take, drop}
-use Rattle.apdu.specs.Values.{emptyRow}
-use Rattle.apdu.proofs.Tables.{long, part_length, part-place}
+use Rattle.apdu.specs.Values.{empty_row}
+use Rattle.apdu.proofs.Tables.{long, part_length, part_place}
 use Rattle.apdu_same.specs.Walk.{same_rows}
-use Rattle.apdu_same.proofs.RowLists.{rows-lengths, RowsLeft, rows_all, row_same, row_other, rows_none}
+use Rattle.apdu_same.proofs.RowLists.{rows_lengths, RowsLeft, rows_all, row_same, row_other, rows_none}
 use Rattle.apdu_same.proofs.rows.rows.Statement.{statement}
 use Rattle.apdu_same.proofs.rows.rows.Tie as tie
 
@@ -29,7 +29,7 @@ returns : tie.Need-returns invariant-loop decreases-loop
 returns c =
     let t : length c.before.before.before.before.before.args.t2 ≡ 32 = search (long, c.before.before.before.before.before.well-formed.1.0.1) in
     let u : length c.before.before.before.before.before.args.t6 ≡ 32 = search (long, c.before.before.before.before.before.well-formed.1.1.1.1.1.0.1) in
-    rows-lengths _ _ _ _ (λ e. c.if1.true (part_length _ c.before.before.before.before.before.args.first c.before.before.before.before.before.args.count t c.before.before.clamped.ensures.0 ∙ e ∙ sym (part_length _ c.before.before.before.before.before.args.from c.before.before.before.before.before.args.size u c.before.clamped2.ensures.0)))
+    rows_lengths _ _ _ _ (λ e. c.if1.true (part_length _ c.before.before.before.before.before.args.first c.before.before.before.before.before.args.count t c.before.before.clamped.ensures.0 ∙ e ∙ sym (part_length _ c.before.before.before.before.before.args.from c.before.before.before.before.before.args.size u c.before.clamped2.ensures.0)))
 
 loop-holds : tie.Need-loop-init invariant-loop decreases-loop
 loop-holds c =
@@ -63,7 +63,7 @@ returns-2 c =
     let l = c.before.before.before.before.before.loop in
     let h = c.before.before.before.before.loop-test.true in
     let a = c.before.before.before.before.before.before.before.before.before.before.before.args in
-    sym (l.invariant.3 ∙ row_other _ _ _ _ l.i (part-place emptyRow a.t2 a.first a.count l.i l.invariant.1 h) (part-place emptyRow a.t6 a.from a.size l.i l.invariant.2 h) (omega arith) (omega arith) c.before.row.ensures c.if2.true)
+    sym (l.invariant.3 ∙ row_other _ _ _ _ l.i (part_place empty_row a.t2 a.first a.count l.i l.invariant.1 h) (part_place empty_row a.t6 a.from a.size l.i l.invariant.2 h) (omega arith) (omega arith) c.before.row.ensures c.if2.true)
 
 add-i : tie.Need-overflow-add-i invariant-loop decreases-loop
 add-i c = omega arith
@@ -76,7 +76,7 @@ loop-again c =
     let l = c.before.before.before.before.before.loop in
     let h = c.before.before.before.before.loop-test.true in
     let a = c.before.before.before.before.before.before.before.before.before.before.before.args in
-    (omega arith, l.invariant.1, l.invariant.2, l.invariant.3 ∙ row_same _ _ _ _ l.i (part-place emptyRow a.t2 a.first a.count l.i l.invariant.1 h) (part-place emptyRow a.t6 a.from a.size l.i l.invariant.2 h) (omega arith) (omega arith) c.before.row.ensures c.if2.false)
+    (omega arith, l.invariant.1, l.invariant.2, l.invariant.3 ∙ row_same _ _ _ _ l.i (part_place empty_row a.t2 a.first a.count l.i l.invariant.1 h) (part_place empty_row a.t6 a.from a.size l.i l.invariant.2 h) (omega arith) (omega arith) c.before.row.ensures c.if2.false)
 
 returns-3 : tie.Need-returns-3 invariant-loop decreases-loop
 returns-3 c = let l = c.before.loop in sym (l.invariant.3 ∙ rows_none _ _ _ _ l.i (omega arith) (omega arith))

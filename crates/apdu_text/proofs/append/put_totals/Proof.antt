@@ -2,8 +2,8 @@
 -- Assumes nothing.
 use mathlib.Core.Path.{refl}
 use mathlib.Core.Path.{◌∙◌}
-use Rattle.apdu_text.specs.Lines.{totalsText}
-use Rattle.apdu_text.proofs.Inking.{inks-then}
+use Rattle.apdu_text.specs.Lines.{totals_text}
+use Rattle.apdu_text.proofs.Inking.{inks_then}
 use Rattle.apdu_text.proofs.append.put_totals.Statement.{statement}
 use Rattle.apdu_text.proofs.append.put_totals.Tie as tie
 
@@ -32,8 +32,8 @@ same_length : tie.Need-same-length
 same_length c = c.before.before.put.auto.0 ∙ c.before.before.before.before.before.before.number3.auto.0 ∙ c.before.before.before.before.before.before.before.before.before.before.before.number2.auto.0 ∙ c.before.before.before.before.before.before.before.before.before.before.before.before.before.before.before.before.number.auto.0
 
 returns : tie.Need-returns
-unfolding totalsText
-returns c = inks-then c.before.before.before.before.before.before.before.before.before.before.before.before.before.before.before.before.number.ensures (inks-then c.before.before.before.before.before.before.before.before.before.before.before.number2.ensures (inks-then c.before.before.before.before.before.before.number3.ensures c.before.before.put.ensures))
+unfolding totals_text
+returns c = inks_then c.before.before.before.before.before.before.before.before.before.before.before.before.before.before.before.before.number.ensures (inks_then c.before.before.before.before.before.before.before.before.before.before.before.number2.ensures (inks_then c.before.before.before.before.before.before.number3.ensures c.before.before.put.ensures))
 
 pub put-totals-spec : {M : Type 1} → statement M
 put-totals-spec = tie.close (tie.spec slice-aggregate-number number-requires slice-aggregate-number-2 number-requires-2 slice-aggregate-number-3 number-requires-3 put-requires same_length returns)

@@ -2,7 +2,7 @@
 -- Assumes nothing.
 use mathlib.Core.Path.{refl}
 use mathlib.Core.Path.{◌∙◌}
-use Rattle.apdu_text.proofs.Inking.{inks-then}
+use Rattle.apdu_text.proofs.Inking.{inks_then}
 use Rattle.apdu_text.proofs.containers.attribute_list.Statement.{statement}
 use Rattle.apdu_text.proofs.containers.attribute_list.Tie as tie
 
@@ -19,7 +19,7 @@ same_length : tie.Need-same-length
 same_length c = c.before.before.list-front.auto.0 ∙ c.before.before.before.before.before.before.put_word.auto.0
 
 returns : tie.Need-returns
-returns c = inks-then c.before.before.before.before.before.before.put_word.ensures c.before.before.list-front.ensures
+returns c = inks_then c.before.before.before.before.before.before.put_word.ensures c.before.before.list-front.ensures
 
 pub attribute-list-spec : {M : Type 1} → statement M
 attribute-list-spec = tie.close (tie.spec slice-aggregate-put-word put-word-requires list-front-requires same_length returns)

@@ -7,7 +7,7 @@ use lib.ListN.{length}
 use Rattle.apdu_text.specs.Parts.{seam}
 use Rattle.apdu_text.specs.Ink.{stack_of}
 use Rattle.apdu_text.proofs.Inking.{Leaves, leaves_all}
-use Rattle.apdu_text.proofs.Pieces.{seam-more, seam-comma, seam-none}
+use Rattle.apdu_text.proofs.Pieces.{seam_more, seam_comma, seam_none}
 use Rattle.apdu_text.proofs.containers.put_seam.Statement.{statement}
 use Rattle.apdu_text.proofs.containers.put_seam.Tie as tie
 
@@ -36,7 +36,7 @@ same_length : tie.Need-same-length invariant-loop decreases-loop
 same_length c = c.before.before.put.auto.0 ∙ c.before.before.before.before.before.before.before.loop.invariant.1
 
 returns : tie.Need-returns invariant-loop decreases-loop
-returns c = seam-comma _ _ c.before.before.before.before.before.before.before.loop.invariant.2 (omega arith) c.before.before.before.before.if1.true c.before.before.put.ensures
+returns c = seam_comma _ _ c.before.before.before.before.before.before.before.loop.invariant.2 (omega arith) c.before.before.before.before.if1.true c.before.before.put.ensures
 
 put-requires-2 : tie.Need-put-requires-2 invariant-loop decreases-loop
 put-requires-2 c κs = tt
@@ -48,13 +48,13 @@ loop-less : tie.Need-loop-smaller invariant-loop decreases-loop
 loop-less c = omega arith
 
 loop-again : tie.Need-loop-preserved invariant-loop decreases-loop
-loop-again c = (omega arith, c.before.before.put2.auto.0 ∙ c.before.before.before.before.before.before.before.loop.invariant.1, seam-more _ _ c.before.before.before.before.before.before.before.loop.invariant.2 (omega arith) c.before.before.before.before.if1.false c.before.before.put2.ensures)
+loop-again c = (omega arith, c.before.before.put2.auto.0 ∙ c.before.before.before.before.before.before.before.loop.invariant.1, seam_more _ _ c.before.before.before.before.before.before.before.loop.invariant.2 (omega arith) c.before.before.before.before.if1.false c.before.before.put2.ensures)
 
 same-length-2 : tie.Need-same-length-2 invariant-loop decreases-loop
 same-length-2 c = c.before.loop.invariant.1
 
 returns-2 : tie.Need-returns-2 invariant-loop decreases-loop
-returns-2 c = seam-none _ _ c.before.loop.invariant.2 (omega arith)
+returns-2 c = seam_none _ _ c.before.loop.invariant.2 (omega arith)
 
 pub put-seam-spec : {M : Type 1} → statement M
 put-seam-spec = tie.close (tie.spec invariant-loop decreases-loop loop-holds sub-if1 mul-if1 shared-slice-read-if1 put-requires same_length returns put-requires-2 sub-k loop-less loop-again same-length-2 returns-2)

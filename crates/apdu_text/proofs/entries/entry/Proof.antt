@@ -3,9 +3,9 @@
 use mathlib.Core.Path.{refl}
 use mathlib.Core.Path.{◌∙◌}
 use borrow.Author.Rules.{rules}
-use Rattle.apdu_text.specs.Parts.{entryText}
-use Rattle.apdu_text.proofs.Inking.{inks-then}
-use Rattle.apdu_text.proofs.Applications.{entry-inks}
+use Rattle.apdu_text.specs.Parts.{entry_text}
+use Rattle.apdu_text.proofs.Inking.{inks_then}
+use Rattle.apdu_text.proofs.Applications.{entry_inks}
 use Rattle.apdu_text.proofs.entries.entry.Statement.{statement}
 use Rattle.apdu_text.proofs.entries.entry.Tie as tie
 
@@ -46,8 +46,8 @@ same_length : tie.Need-same-length
 same_length c = c.before.before.container-if.auto.1.0 ∙ c.before.before.before.before.before.before.before.before.before.before.before.number-if.auto.1.0 ∙ c.before.before.before.before.before.before.before.before.before.before.before.before.before.before.before.before.before.put-decimal.auto.0
 
 returns : tie.Need-returns
-unfolding entryText
-returns c = entry-inks _ _ _ c.before.before.before.before.before.before.entry-rows.ensures.0 (inks-then c.before.before.before.before.before.before.before.before.before.before.before.before.before.before.before.before.before.put-decimal.ensures (inks-then c.before.before.before.before.before.before.before.before.before.before.before.number-if.ensures c.before.before.container-if.ensures))
+unfolding entry_text
+returns c = entry_inks _ _ _ c.before.before.before.before.before.before.entry-rows.ensures.0 (inks_then c.before.before.before.before.before.before.before.before.before.before.before.before.before.before.before.before.before.put-decimal.ensures (inks_then c.before.before.before.before.before.before.before.before.before.before.before.number-if.ensures c.before.before.container-if.ensures))
 
 pub entry_spec : {M : Type 1} → statement M
 entry_spec = tie.close (tie.spec cast-put-decimal put-decimal-requires slice-aggregate-number-if cast-number-if number-if-requires slice-aggregate-container-if entry-rows-requires cast-container-if cast-container-if-2 cast-container-if-3 container-if-requires same_length returns)

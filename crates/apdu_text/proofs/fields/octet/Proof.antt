@@ -3,7 +3,7 @@
 use native.Mathlib.Omega.{arith}
 use borrow.Author.Rules.{rules}
 use Prim.Native.Nat.{◌+◌, ◌*◌}
-use Rattle.bits.specs.Bits.{readField}
+use Rattle.bits.specs.Bits.{read_field}
 use Rattle.bits.proofs.Laws.{field_lt}
 use Rattle.apdu_text.proofs.fields.octet.Statement.{statement}
 use Rattle.apdu_text.proofs.fields.octet.Tie as tie
@@ -18,11 +18,11 @@ read-field-requires : tie.Need-read-field-requires
 read-field-requires c κs = tt
 
 cast-result : tie.Need-overflow-cast-result
-unfolding readField
+unfolding read_field
 cast-result c = let a = c.before.before.args in omega (arith, field_lt a.s.now (a.start + 8 * a.k) 8, c.read-field.ensures)
 
 returns : tie.Need-returns
-unfolding readField
+unfolding read_field
 returns c = c.read-field.ensures
 
 pub octet-spec : {M : Type 1} → statement M

@@ -5,16 +5,16 @@ use Prim.Native.Nat.{◌≤◌, ◌-◌, ◌+◌, ◌*◌}
 use mathlib.Core.Path.{◌≡◌, refl, ◌∙◌}
 use lib.ListN.{length}
 use mathlib.Core.Path.{ap}
-use Rattle.bench_lines.specs.Line.{hexText}
-use Rattle.bits.specs.Strings.{stringAt}
+use Rattle.bench_lines.specs.Line.{hex_text}
+use Rattle.bits.specs.Strings.{string_at}
 use Rattle.apdu_text.specs.Parts.{part_at}
-use Rattle.apdu_text.proofs.Inking.{Leaves, leaves_all, leaves-as}
-use Rattle.apdu_text.proofs.Pieces.{part-all, part-more, part_end, reach}
+use Rattle.apdu_text.proofs.Inking.{Leaves, leaves_all, leaves_as}
+use Rattle.apdu_text.proofs.Pieces.{part_all, part_more, part_end, reach}
 use Rattle.apdu_text.proofs.fields.put_part.Statement.{statement}
 use Rattle.apdu_text.proofs.fields.put_part.Tie as tie
 
 abbrev invariant-loop : tie.invariant-loop
-invariant-loop out₀ s start n at most p₀ k₀ out p k = (k ≤ most) × (length out ≡ length out₀) × Leaves (hexText (part_at s start n)) at out₀ (hexText (stringAt s (start + 8 * k) (most - k))) p out
+invariant-loop out₀ s start n at most p₀ k₀ out p k = (k ≤ most) × (length out ≡ length out₀) × Leaves (hex_text (part_at s start n)) at out₀ (hex_text (string_at s (start + 8 * k) (most - k))) p out
 
 abbrev decreases-loop : tie.decreases-loop
 decreases-loop out₀ s start n at most p₀ k₀ out p k = most - k
@@ -23,7 +23,7 @@ shown-requires : tie.Need-shown-requires invariant-loop decreases-loop
 shown-requires c κs = tt
 
 loop-holds : tie.Need-loop-init invariant-loop decreases-loop
-loop-holds c = (omega arith, refl, leaves-as (ap hexText (part-all _ _ _ c.shown.ensures)) (leaves_all _ _ _))
+loop-holds c = (omega arith, refl, leaves_as (ap hex_text (part_all _ _ _ c.shown.ensures)) (leaves_all _ _ _))
 
 octet-requires : tie.Need-octet-requires invariant-loop decreases-loop
 octet-requires c κs = reach _ _ _ c.before.before.before.shown.ensures c.before.loop-test.true
@@ -38,7 +38,7 @@ loop-less : tie.Need-loop-smaller invariant-loop decreases-loop
 loop-less c = omega arith
 
 loop-again : tie.Need-loop-preserved invariant-loop decreases-loop
-loop-again c = (omega arith, c.before.before.put-octet.auto.0 ∙ c.before.before.before.before.before.before.loop.invariant.1, part-more _ _ _ _ c.before.before.before.before.before.before.loop.invariant.2 c.before.before.before.before.before.loop-test.true c.before.before.before.octet.ensures c.before.before.put-octet.ensures)
+loop-again c = (omega arith, c.before.before.put-octet.auto.0 ∙ c.before.before.before.before.before.before.loop.invariant.1, part_more _ _ _ _ c.before.before.before.before.before.before.loop.invariant.2 c.before.before.before.before.before.loop-test.true c.before.before.before.octet.ensures c.before.before.put-octet.ensures)
 
 same_length : tie.Need-same-length invariant-loop decreases-loop
 same_length c = c.before.loop.invariant.1

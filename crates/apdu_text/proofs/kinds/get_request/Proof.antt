@@ -1,8 +1,8 @@
 -- Its fields, one behind the other.
 -- Assumes nothing.
 use mathlib.Core.Path.{refl}
-use Rattle.apdu_text.specs.MessageText.{getRequestText}
-use Rattle.apdu_text.proofs.Inking.{inks-then}
+use Rattle.apdu_text.specs.MessageText.{get_request_text}
+use Rattle.apdu_text.proofs.Inking.{inks_then}
 use mathlib.Core.Path.{◌∙◌}
 use Rattle.apdu_text.proofs.kinds.get_request.Statement.{statement}
 use Rattle.apdu_text.proofs.kinds.get_request.Tie as tie
@@ -41,8 +41,8 @@ same_length : tie.Need-same-length
 same_length c = c.before.before.list-if.auto.1.0 ∙ c.before.before.before.before.before.before.before.number-if.auto.1.0 ∙ c.before.before.before.before.before.before.before.before.before.before.before.before.string-if.auto.1.0 ∙ c.before.before.before.before.before.before.before.before.before.before.before.before.before.before.before.before.before.number2.auto.0 ∙ c.before.before.before.before.before.before.before.before.before.before.before.before.before.before.before.before.before.before.before.before.before.before.number.auto.0
 
 returns : tie.Need-returns
-unfolding getRequestText
-returns c = inks-then c.before.before.before.before.before.before.before.before.before.before.before.before.before.before.before.before.before.before.before.before.before.before.number.ensures (inks-then c.before.before.before.before.before.before.before.before.before.before.before.before.before.before.before.before.before.number2.ensures (inks-then c.before.before.before.before.before.before.before.before.before.before.before.before.string-if.ensures (inks-then c.before.before.before.before.before.before.before.number-if.ensures c.before.before.list-if.ensures)))
+unfolding get_request_text
+returns c = inks_then c.before.before.before.before.before.before.before.before.before.before.before.before.before.before.before.before.before.before.before.before.before.before.number.ensures (inks_then c.before.before.before.before.before.before.before.before.before.before.before.before.before.before.before.before.before.number2.ensures (inks_then c.before.before.before.before.before.before.before.before.before.before.before.before.string-if.ensures (inks_then c.before.before.before.before.before.before.before.number-if.ensures c.before.before.list-if.ensures)))
 
 pub get-request-spec : {M : Type 1} → statement M
 get-request-spec = tie.close (tie.spec slice-aggregate-number number-requires slice-aggregate-number-2 number-requires-2 slice-aggregate-string-if string-if-requires slice-aggregate-number-if number-if-requires slice-aggregate-list-if list-if-requires same_length returns)

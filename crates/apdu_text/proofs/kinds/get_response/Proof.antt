@@ -1,8 +1,8 @@
 -- Its fields, one behind the other.
 -- Assumes nothing.
 use mathlib.Core.Path.{refl}
-use Rattle.apdu_text.specs.MessageText.{getResponseText}
-use Rattle.apdu_text.proofs.Inking.{inks-then}
+use Rattle.apdu_text.specs.MessageText.{get_response_text}
+use Rattle.apdu_text.proofs.Inking.{inks_then}
 use mathlib.Core.Path.{◌∙◌}
 use Rattle.apdu_text.proofs.kinds.get_response.Statement.{statement}
 use Rattle.apdu_text.proofs.kinds.get_response.Tie as tie
@@ -38,8 +38,8 @@ same_length : tie.Need-same-length
 same_length c = c.before.before.number-if2.auto.1.0 ∙ c.before.before.before.before.before.before.before.attributes-if.auto.1.0 ∙ c.before.before.before.before.before.before.before.before.before.before.before.number-if.auto.1.0 ∙ c.before.before.before.before.before.before.before.before.before.before.before.before.before.before.before.before.number2.auto.0 ∙ c.before.before.before.before.before.before.before.before.before.before.before.before.before.before.before.before.before.before.before.before.before.number.auto.0
 
 returns : tie.Need-returns
-unfolding getResponseText
-returns c = inks-then c.before.before.before.before.before.before.before.before.before.before.before.before.before.before.before.before.before.before.before.before.before.number.ensures (inks-then c.before.before.before.before.before.before.before.before.before.before.before.before.before.before.before.before.number2.ensures (inks-then c.before.before.before.before.before.before.before.before.before.before.before.number-if.ensures (inks-then c.before.before.before.before.before.before.before.attributes-if.ensures c.before.before.number-if2.ensures)))
+unfolding get_response_text
+returns c = inks_then c.before.before.before.before.before.before.before.before.before.before.before.before.before.before.before.before.before.before.before.before.before.number.ensures (inks_then c.before.before.before.before.before.before.before.before.before.before.before.before.before.before.before.before.number2.ensures (inks_then c.before.before.before.before.before.before.before.before.before.before.before.number-if.ensures (inks_then c.before.before.before.before.before.before.before.attributes-if.ensures c.before.before.number-if2.ensures)))
 
 pub get-response-spec : {M : Type 1} → statement M
 get-response-spec = tie.close (tie.spec slice-aggregate-number number-requires slice-aggregate-number-2 number-requires-2 slice-aggregate-number-if number-if-requires attributes-if-requires slice-aggregate-number-if-2 number-if-requires-2 same_length returns)

@@ -1,10 +1,10 @@
 -- Its fields, one behind the other.
 -- Assumes nothing.
 use mathlib.Core.Path.{refl}
-use Rattle.apdu_text.specs.MessageText.{setRequestText}
-use Rattle.apdu_text.proofs.Inking.{inks-then}
-use Rattle.apdu_text.specs.Words.{modeIs}
-use Rattle.apdu_text.proofs.Pieces.{number-as}
+use Rattle.apdu_text.specs.MessageText.{set_request_text}
+use Rattle.apdu_text.proofs.Inking.{inks_then}
+use Rattle.apdu_text.specs.Words.{mode_is}
+use Rattle.apdu_text.proofs.Pieces.{number_as}
 use mathlib.Core.Path.{◌∙◌}
 use Rattle.apdu_text.proofs.kinds.set_request.Statement.{statement}
 use Rattle.apdu_text.proofs.kinds.set_request.Tie as tie
@@ -49,8 +49,8 @@ same_length : tie.Need-same-length
 same_length c = c.before.before.number-if.auto.1.0 ∙ c.before.before.before.before.before.before.before.attributes-if.auto.1.0 ∙ c.before.before.before.before.before.before.before.before.before.before.before.string-if.auto.1.0 ∙ c.before.before.before.before.before.before.before.before.before.before.before.before.before.before.before.before.number3.auto.0 ∙ c.before.before.before.before.before.before.before.before.before.before.before.before.before.before.before.before.before.before.before.before.before.number2.auto.0 ∙ c.before.before.before.before.before.before.before.before.before.before.before.before.before.before.before.before.before.before.before.before.before.before.before.before.before.before.before.number.auto.0
 
 returns : tie.Need-returns
-unfolding setRequestText
-returns c = inks-then c.before.before.before.before.before.before.before.before.before.before.before.before.before.before.before.before.before.before.before.before.before.before.before.before.before.before.before.number.ensures (inks-then (number-as modeIs c.before.before.before.before.before.before.before.before.before.before.before.before.before.before.before.before.before.before.before.before.before.before.bit.ensures c.before.before.before.before.before.before.before.before.before.before.before.before.before.before.before.before.before.before.before.before.before.number2.ensures) (inks-then c.before.before.before.before.before.before.before.before.before.before.before.before.before.before.before.before.number3.ensures (inks-then c.before.before.before.before.before.before.before.before.before.before.before.string-if.ensures (inks-then c.before.before.before.before.before.before.before.attributes-if.ensures c.before.before.number-if.ensures))))
+unfolding set_request_text
+returns c = inks_then c.before.before.before.before.before.before.before.before.before.before.before.before.before.before.before.before.before.before.before.before.before.before.before.before.before.before.before.number.ensures (inks_then (number_as mode_is c.before.before.before.before.before.before.before.before.before.before.before.before.before.before.before.before.before.before.before.before.before.before.bit.ensures c.before.before.before.before.before.before.before.before.before.before.before.before.before.before.before.before.before.before.before.before.before.number2.ensures) (inks_then c.before.before.before.before.before.before.before.before.before.before.before.before.before.before.before.before.number3.ensures (inks_then c.before.before.before.before.before.before.before.before.before.before.before.string-if.ensures (inks_then c.before.before.before.before.before.before.before.attributes-if.ensures c.before.before.number-if.ensures))))
 
 pub set-request-spec : {M : Type 1} → statement M
 set-request-spec = tie.close (tie.spec slice-aggregate-number number-requires slice-aggregate-number-2 bit-requires number-requires-2 slice-aggregate-number-3 number-requires-3 slice-aggregate-string-if string-if-requires attributes-if-requires slice-aggregate-number-if number-if-requires same_length returns)

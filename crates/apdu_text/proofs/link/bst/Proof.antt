@@ -5,10 +5,10 @@ use native.Mathlib.Omega.{arith}
 use borrow.Author.Rules.{rules}
 use mathlib.Core.Path.{◌∙◌}
 use lib.ListN.{take, drop}
-use Rattle.apdu_text.specs.Words.{optionalIs}
-use Rattle.apdu_text.specs.MessageText.{bstText}
-use Rattle.apdu_text.proofs.Inking.{inks-then}
-use Rattle.apdu_text.proofs.Applications.{others-behind}
+use Rattle.apdu_text.specs.Words.{optional_is}
+use Rattle.apdu_text.specs.MessageText.{bst_text}
+use Rattle.apdu_text.proofs.Inking.{inks_then}
+use Rattle.apdu_text.proofs.Applications.{others_behind}
 use Rattle.apdu_text.proofs.link.bst.Statement.{statement}
 use Rattle.apdu_text.proofs.link.bst.Tie as tie
 
@@ -55,8 +55,8 @@ same_length : tie.Need-same-length
 same_length c = c.before.before.list.auto.0 ∙ c.before.before.before.before.before.before.before.others.auto.1.0 ∙ c.before.before.before.before.before.before.before.before.before.before.before.entries.auto.0 ∙ c.before.before.before.before.before.before.before.before.before.before.before.before.before.before.before.before.number4.auto.0 ∙ c.before.before.before.before.before.before.before.before.before.before.before.before.before.before.before.before.before.before.before.before.before.number3.auto.0 ∙ c.before.before.before.before.before.before.before.before.before.before.before.before.before.before.before.before.before.before.before.before.before.before.before.before.before.before.number2.auto.0 ∙ c.before.before.before.before.before.before.before.before.before.before.before.before.before.before.before.before.before.before.before.before.before.before.before.before.before.before.before.before.before.before.before.number.auto.0
 
 returns : tie.Need-returns
-unfolding bstText
-returns c = inks-then c.before.before.before.before.before.before.before.before.before.before.before.before.before.before.before.before.before.before.before.before.before.before.before.before.before.before.before.before.before.before.before.number.ensures (inks-then c.before.before.before.before.before.before.before.before.before.before.before.before.before.before.before.before.before.before.before.before.before.before.before.before.before.before.number2.ensures (inks-then c.before.before.before.before.before.before.before.before.before.before.before.before.before.before.before.before.before.before.before.before.before.number3.ensures (inks-then c.before.before.before.before.before.before.before.before.before.before.before.before.before.before.before.before.number4.ensures (inks-then c.before.before.before.before.before.before.before.before.before.before.before.entries.ensures.0 (inks-then ((let a = c.before.before.before.before.before.before.before.before.before.before.before.before.before.before.before.before.before.before.before.before.before.before.before.before.before.before.before.before.before.before.before.before.before.before.before.before.args in others-behind a.m.has_others optionalIs a.s.now (take a.m.others (drop a.m.mandatory a.all)) (take a.m.mandatory a.all) a.table c.before.before.before.before.before.before.before.before.before.before.before.entries.ensures.1 c.before.before.before.before.before.before.before.others.ensures)) c.before.before.list.ensures)))))
+unfolding bst_text
+returns c = inks_then c.before.before.before.before.before.before.before.before.before.before.before.before.before.before.before.before.before.before.before.before.before.before.before.before.before.before.before.before.before.before.before.number.ensures (inks_then c.before.before.before.before.before.before.before.before.before.before.before.before.before.before.before.before.before.before.before.before.before.before.before.before.before.before.number2.ensures (inks_then c.before.before.before.before.before.before.before.before.before.before.before.before.before.before.before.before.before.before.before.before.before.number3.ensures (inks_then c.before.before.before.before.before.before.before.before.before.before.before.before.before.before.before.before.number4.ensures (inks_then c.before.before.before.before.before.before.before.before.before.before.before.entries.ensures.0 (inks_then ((let a = c.before.before.before.before.before.before.before.before.before.before.before.before.before.before.before.before.before.before.before.before.before.before.before.before.before.before.before.before.before.before.before.before.before.before.before.before.args in others_behind a.m.has_others optional_is a.s.now (take a.m.others (drop a.m.mandatory a.all)) (take a.m.mandatory a.all) a.table c.before.before.before.before.before.before.before.before.before.before.before.entries.ensures.1 c.before.before.before.before.before.before.before.others.ensures)) c.before.before.list.ensures)))))
 
 pub bst-spec : {M : Type 1} → statement M
 bst-spec = tie.close (tie.spec slice-aggregate-number number-requires slice-aggregate-number-2 number-requires-2 slice-aggregate-number-3 number-requires-3 slice-aggregate-number-4 number-requires-4 slice-aggregate-entries entries-requires others-requires slice-aggregate-list list-requires same_length returns)

@@ -2,7 +2,7 @@
 -- Assumes nothing.
 use mathlib.Core.Path.{refl}
 use borrow.Author.Rules.{rules}
-use Rattle.apdu_text.proofs.Inking.{when-there, when-absent}
+use Rattle.apdu_text.proofs.Inking.{when_there, when_absent}
 use Rattle.apdu_text.proofs.link.others.Statement.{statement}
 use Rattle.apdu_text.proofs.link.others.Tie as tie
 
@@ -16,10 +16,10 @@ same_length : tie.Need-same-length
 same_length c = c.before.before.entries.auto.0
 
 returns : tie.Need-returns
-returns c = when-there _ c.before.before.before.before.before.if1.true c.before.before.entries.ensures.0
+returns c = when_there _ c.before.before.before.before.before.if1.true c.before.before.entries.ensures.0
 
 returns-2 : tie.Need-returns-2
-returns-2 c = when-absent _ _ _ c.if1.false
+returns-2 c = when_absent _ _ _ c.if1.false
 
 pub others-spec : {M : Type 1} → statement M
 others-spec = tie.close (tie.spec slice-aggregate-entries entries-requires same_length returns returns-2)

@@ -3,8 +3,8 @@
 use mathlib.Core.Path.{refl}
 use borrow.Author.Rules.{rules}
 use mathlib.Core.Path.{◌∙◌}
-use Rattle.apdu_text.specs.MessageText.{vstText}
-use Rattle.apdu_text.proofs.Inking.{inks-then}
+use Rattle.apdu_text.specs.MessageText.{vst_text}
+use Rattle.apdu_text.proofs.Inking.{inks_then}
 use Rattle.apdu_text.proofs.link.vst.Statement.{statement}
 use Rattle.apdu_text.proofs.link.vst.Tie as tie
 
@@ -48,8 +48,8 @@ same_length : tie.Need-same-length
 same_length c = c.before.before.number-if.auto.1.0 ∙ c.before.before.before.before.before.before.before.number4.auto.0 ∙ c.before.before.before.before.before.before.before.before.before.before.before.before.number3.auto.0 ∙ c.before.before.before.before.before.before.before.before.before.before.before.before.before.before.before.before.before.entries.auto.0 ∙ c.before.before.before.before.before.before.before.before.before.before.before.before.before.before.before.before.before.before.before.before.before.before.number2.auto.0 ∙ c.before.before.before.before.before.before.before.before.before.before.before.before.before.before.before.before.before.before.before.before.before.before.before.before.before.before.before.number.auto.0
 
 returns : tie.Need-returns
-unfolding vstText
-returns c = inks-then c.before.before.before.before.before.before.before.before.before.before.before.before.before.before.before.before.before.before.before.before.before.before.before.before.before.before.before.number.ensures (inks-then c.before.before.before.before.before.before.before.before.before.before.before.before.before.before.before.before.before.before.before.before.before.before.number2.ensures (inks-then c.before.before.before.before.before.before.before.before.before.before.before.before.before.before.before.before.before.entries.ensures.0 (inks-then c.before.before.before.before.before.before.before.before.before.before.before.before.number3.ensures (inks-then c.before.before.before.before.before.before.before.number4.ensures c.before.before.number-if.ensures))))
+unfolding vst_text
+returns c = inks_then c.before.before.before.before.before.before.before.before.before.before.before.before.before.before.before.before.before.before.before.before.before.before.before.before.before.before.before.number.ensures (inks_then c.before.before.before.before.before.before.before.before.before.before.before.before.before.before.before.before.before.before.before.before.before.before.number2.ensures (inks_then c.before.before.before.before.before.before.before.before.before.before.before.before.before.before.before.before.before.entries.ensures.0 (inks_then c.before.before.before.before.before.before.before.before.before.before.before.before.number3.ensures (inks_then c.before.before.before.before.before.before.before.number4.ensures c.before.before.number-if.ensures))))
 
 pub vst-spec : {M : Type 1} → statement M
 vst-spec = tie.close (tie.spec slice-aggregate-number number-requires slice-aggregate-number-2 number-requires-2 slice-aggregate-entries entries-requires slice-aggregate-number-3 number-requires-3 slice-aggregate-number-4 number-requires-4 slice-aggregate-number-if number-if-requires same_length returns)

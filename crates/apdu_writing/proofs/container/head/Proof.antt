@@ -1,6 +1,6 @@
 -- `head` writes the kind, and then what the kind brings.
 -- Assumes nothing.
-use Rattle.apdu_writing.proofs.Heads.{head-string, head-eid, head-ids, head_rows}
+use Rattle.apdu_writing.proofs.Heads.{head_string, head_eid, head_ids, head_rows}
 use borrow.Author.Rules.{rules}
 use Rattle.apdu_writing.proofs.container.head.Statement.{statement}
 use Rattle.apdu_writing.proofs.container.head.Tie as tie
@@ -15,7 +15,7 @@ same_length : tie.Need-same-length
 same_length c = search rules
 
 returns : tie.Need-returns
-returns c = head-string _ _ _ _ c.before.before.before.before.before.before.kind.ensures c.before.before.before.before.before.before.before.before.if1.true c.before.before.string.ensures
+returns c = head_string _ _ _ _ c.before.before.before.before.before.before.kind.ensures c.before.before.before.before.before.before.before.before.if1.true c.before.before.string.ensures
 
 kind-requires-2 : tie.Need-kind-requires-2
 kind-requires-2 c κs = search rules
@@ -27,7 +27,7 @@ same-length-2 : tie.Need-same-length-2
 same-length-2 c = search rules
 
 returns-2 : tie.Need-returns-2
-returns-2 c = head-eid _ _ _ _ c.before.before.before.before.before.before.kind2.ensures c.before.before.before.before.before.before.before.before.if2.true c.before.before.number.ensures
+returns-2 c = head_eid _ _ _ _ c.before.before.before.before.before.before.kind2.ensures c.before.before.before.before.before.before.before.before.if2.true c.before.before.number.ensures
 
 kind-requires-3 : tie.Need-kind-requires-3
 kind-requires-3 c κs = search rules
@@ -39,7 +39,7 @@ same-length-3 : tie.Need-same-length-3
 same-length-3 c = search rules
 
 returns-3 : tie.Need-returns-3
-returns-3 c = head-ids _ _ _ _ c.before.before.before.before.before.before.kind3.ensures c.before.before.before.before.before.before.before.before.if3.true c.before.before.ids.ensures
+returns-3 c = head_ids _ _ _ _ c.before.before.before.before.before.before.kind3.ensures c.before.before.before.before.before.before.before.before.if3.true c.before.before.ids.ensures
 
 kind-requires-4 : tie.Need-kind-requires-4
 kind-requires-4 c κs = search rules

@@ -1,6 +1,6 @@
 -- A row is its id and its container.
 -- Assumes nothing.
-use Rattle.apdu_writing.proofs.Heads.{next-by}
+use Rattle.apdu_writing.proofs.Heads.{next_by}
 use borrow.Author.Rules.{rules}
 use Rattle.apdu_writing.proofs.container.next_row.Statement.{statement}
 use Rattle.apdu_writing.proofs.container.next_row.Tie as tie
@@ -36,7 +36,7 @@ same_length : tie.Need-same-length
 same_length c = search rules
 
 returns : tie.Need-returns
-returns c = next-by _ _ _ c.before.before.before.before.before.before.before.before.before.before.before.before.before.before.before.before.before.requires c.before.before.before.before.before.before.before.level.ensures.0 c.before.before.before.before.before.before.before.before.before.before.before.before.number.ensures c.before.before.before.before.head.ensures (rw c.before.announces.ensures at c.after-row.ensures)
+returns c = next_by _ _ _ c.before.before.before.before.before.before.before.before.before.before.before.before.before.before.before.before.before.requires c.before.before.before.before.before.before.before.level.ensures.0 c.before.before.before.before.before.before.before.before.before.before.before.before.number.ensures c.before.before.before.before.head.ensures (rw c.before.announces.ensures at c.after-row.ensures)
 
 pub next-row-spec : {M : Type 1} → statement M
 next-row-spec =

@@ -1,6 +1,6 @@
 -- A count is in range up to 16.
 -- Assumes nothing.
-use Rattle.apdu_writing.proofs.Counts.{entries_by, few-by}
+use Rattle.apdu_writing.proofs.Counts.{entries_by, few_by_law}
 use borrow.Author.Rules.{rules}
 use Rattle.apdu_writing.proofs.counted.entry_count.Statement.{statement}
 use Rattle.apdu_writing.proofs.counted.entry_count.Tie as tie
@@ -12,7 +12,7 @@ same_length : tie.Need-same-length
 same_length c = search rules
 
 returns : tie.Need-returns
-returns c = (entries_by _ c.before.before.put.ensures, few-by c.before.before.put.ensures)
+returns c = (entries_by _ c.before.before.put.ensures, few_by_law c.before.before.put.ensures)
 
 pub entry-count-spec : {M : Type 1} → statement M
 entry-count-spec = tie.close (tie.spec put-requires same_length returns)

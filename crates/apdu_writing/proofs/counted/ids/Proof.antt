@@ -2,7 +2,7 @@
 -- Assumes nothing.
 use native.Mathlib.Omega.{arith}
 use borrow.Author.Tests.{not-false}
-use Rattle.apdu_writing.proofs.Counts.{ids-stopped, ids_all}
+use Rattle.apdu_writing.proofs.Counts.{ids_stopped, ids_all}
 use borrow.Author.Rules.{rules}
 use Rattle.apdu_writing.proofs.counted.ids.Statement.{statement}
 use Rattle.apdu_writing.proofs.counted.ids.Tie as tie
@@ -14,7 +14,7 @@ same_length : tie.Need-same-length
 same_length c = search rules
 
 returns : tie.Need-returns
-returns c = ids-stopped _ _ _ c.before.before.before.before.id-count.ensures.0 c.if1.true
+returns c = ids_stopped _ _ _ c.before.before.before.before.id-count.ensures.0 c.if1.true
 
 first-bits-clear-requires : tie.Need-first-bits-clear-requires
 first-bits-clear-requires c κs = search rules
@@ -26,7 +26,7 @@ same-length-2 : tie.Need-same-length-2
 same-length-2 c = search rules
 
 returns-2 : tie.Need-returns-2
-returns-2 c = ids_all _ _ _ c.before.before.before.before.before.before.before.before.before.id-count.ensures.0 c.before.before.before.before.first-bits-clear.ensures c.before.before.put-octets.ensures
+returns-2 c = ids_all _ _ _ c.before.before.before.before.before.before.before.before.before.id-count.ensures.0 c.before.before.before.before.first-bits-clear.ensures c.before.before.put_octets_law.ensures
 
 pub ids-spec : {M : Type 1} → statement M
 ids-spec =

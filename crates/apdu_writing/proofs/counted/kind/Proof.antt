@@ -1,6 +1,6 @@
 -- A kind is in range where it is known and not too deep.
 -- Assumes nothing.
-use Rattle.apdu_writing.proofs.Counts.{kind-by, known_by}
+use Rattle.apdu_writing.proofs.Counts.{kind_by, known_by}
 use borrow.Author.Rules.{rules}
 use Rattle.apdu_writing.proofs.counted.kind.Statement.{statement}
 use Rattle.apdu_writing.proofs.counted.kind.Tie as tie
@@ -15,7 +15,7 @@ same_length : tie.Need-same-length
 same_length c = search rules
 
 returns : tie.Need-returns
-returns c = (kind-by _ _ c.before.before.before.before.known.ensures c.before.before.put.ensures, known_by c.before.before.before.before.known.ensures c.before.before.put.ensures)
+returns c = (kind_by _ _ c.before.before.before.before.known.ensures c.before.before.put.ensures, known_by c.before.before.before.before.known.ensures c.before.before.put.ensures)
 
 pub kind-spec : {M : Type 1} → statement M
 kind-spec = tie.close (tie.spec known-requires put-requires same_length returns)

@@ -1,6 +1,6 @@
 -- A count of rows is in range up to 16 and up to the room left.
 -- Assumes nothing.
-use Rattle.apdu_writing.proofs.Counts.{rows-by}
+use Rattle.apdu_writing.proofs.Counts.{rows_by}
 use borrow.Author.Rules.{rules}
 use Rattle.apdu_writing.proofs.counted.row_count.Statement.{statement}
 use Rattle.apdu_writing.proofs.counted.row_count.Tie as tie
@@ -18,7 +18,7 @@ same_length : tie.Need-same-length
 same_length c = search rules
 
 returns : tie.Need-returns
-returns c = rows-by _ _ c.before.before.before.put.ensures c.spend.ensures
+returns c = rows_by _ _ c.before.before.before.put.ensures c.spend.ensures
 
 pub row-count-spec : {M : Type 1} → statement M
 row-count-spec = tie.close (tie.spec cast-room put-requires spend-requires same_length returns)

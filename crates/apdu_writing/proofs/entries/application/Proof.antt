@@ -1,6 +1,6 @@
 -- An entry is its first octet, its EID and its parameter.
 -- Assumes nothing.
-use Rattle.apdu_writing.proofs.EntryLists.{entry-by}
+use Rattle.apdu_writing.proofs.EntryLists.{entry_by}
 use borrow.Author.Rules.{rules}
 use Rattle.apdu_writing.proofs.entries.application.Statement.{statement}
 use Rattle.apdu_writing.proofs.entries.application.Tie as tie
@@ -57,7 +57,7 @@ same_length : tie.Need-same-length
 same_length c = search rules
 
 returns : tie.Need-returns
-returns c = entry-by _ _ _ c.before.before.before.before.before.before.before.entry-rows.ensures.0 c.before.before.before.before.before.before.before.before.before.before.before.before.before.before.before.before.before.before.before.before.before.bit.ensures.0 c.before.before.before.before.before.before.before.before.before.before.before.before.before.before.before.before.before.before.before.before.bit2.ensures.0 c.before.before.before.before.before.before.before.before.before.before.before.before.before.before.before.before.before.before.small.ensures c.before.before.before.before.before.before.before.before.before.before.before.before.before.before.before.put.ensures c.before.before.before.before.before.before.before.before.before.before.number-if.ensures c.before.before.parameter.ensures
+returns c = entry_by _ _ _ c.before.before.before.before.before.before.before.entry-rows.ensures.0 c.before.before.before.before.before.before.before.before.before.before.before.before.before.before.before.before.before.before.before.before.before.bit.ensures.0 c.before.before.before.before.before.before.before.before.before.before.before.before.before.before.before.before.before.before.before.before.bit2.ensures.0 c.before.before.before.before.before.before.before.before.before.before.before.before.before.before.before.before.before.before.small.ensures c.before.before.before.before.before.before.before.before.before.before.before.before.before.before.before.put.ensures c.before.before.before.before.before.before.before.before.before.before.number-if.ensures c.before.before.parameter.ensures
 
 pub application-spec : {M : Type 1} → statement M
 application-spec =

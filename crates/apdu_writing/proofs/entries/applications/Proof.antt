@@ -6,7 +6,7 @@ use mathlib.Core.Path.{◌≡◌, refl, ◌∙◌}
 use lib.ListN.{length, take, drop}
 use borrow.Author.Tests.{not-false}
 use Rattle.apdu.proofs.Tables.{long}
-use Rattle.apdu_writing.proofs.EntryLists.{Turns, turns-none, turns_more, turns-all, turns_stopped}
+use Rattle.apdu_writing.proofs.EntryLists.{Turns, turns_none, turns_more, turns_all, turns_stopped}
 use Rattle.apdu_writing.proofs.entries.applications.Statement.{statement}
 use Rattle.apdu_writing.proofs.entries.applications.Tie as tie
 
@@ -26,7 +26,7 @@ returns : tie.Need-returns invariant-loop decreases-loop
 returns c = turns_stopped _ _ _ _ _ _ c.if1.true c.before.before.before.before.entry-count.ensures.0
 
 loop-holds : tie.Need-loop-init invariant-loop decreases-loop
-loop-holds c = (omega arith, refl, omega arith, turns-none _ _ _ _ _ _ _)
+loop-holds c = (omega arith, refl, omega arith, turns_none _ _ _ _ _ _ _)
 
 add-e : tie.Need-overflow-add-e invariant-loop decreases-loop
 add-e c = omega (arith, c.before.before.before.before.before.before.entry-count.ensures.1.so (not-false _ c.before.before.if1.false))
@@ -59,7 +59,7 @@ same-length-2 : tie.Need-same-length-2 invariant-loop decreases-loop
 same-length-2 c = c.before.loop.invariant.1 ∙ c.before.before.before.before.before.before.entry-count.auto.1.0
 
 returns-2 : tie.Need-returns-2 invariant-loop decreases-loop
-returns-2 c = let g = c.before.before.before.before.before.before.entry-count.ensures.1.so (not-false _ c.before.before.if1.false) in let t : length c.before.before.before.before.before.before.before.before.before.before.args.t2 ≡ 32 = search (long, c.before.before.before.before.before.before.before.before.before.before.well-formed.1.0.1) in turns-all _ _ _ _ t c.before.before.before.before.before.before.before.before.before.before.requires.0 g c.before.loop.invariant.3 (omega arith) c.before.loop.invariant.2 c.before.before.before.before.before.before.entry-count.ensures.0
+returns-2 c = let g = c.before.before.before.before.before.before.entry-count.ensures.1.so (not-false _ c.before.before.if1.false) in let t : length c.before.before.before.before.before.before.before.before.before.before.args.t2 ≡ 32 = search (long, c.before.before.before.before.before.before.before.before.before.before.well-formed.1.0.1) in turns_all _ _ _ _ t c.before.before.before.before.before.before.before.before.before.before.requires.0 g c.before.loop.invariant.3 (omega arith) c.before.loop.invariant.2 c.before.before.before.before.before.before.entry-count.ensures.0
 
 pub applications-spec : {M : Type 1} → statement M
 applications-spec =

@@ -1,6 +1,6 @@
 -- The leading part and then the components, one after the other.
 -- Assumes nothing.
-use Rattle.apdu_writing.proofs.Messages.{action-response-by}
+use Rattle.apdu_writing.proofs.Messages.{action_response_by}
 use borrow.Author.Rules.{rules}
 use Rattle.apdu_writing.proofs.kinds.action_response.Statement.{statement}
 use Rattle.apdu_writing.proofs.kinds.action_response.Tie as tie
@@ -60,7 +60,7 @@ same_length : tie.Need-same-length
 same_length c = search rules
 
 returns : tie.Need-returns
-returns c = action-response-by _ _ _ c.before.before.before.before.before.before.before.before.before.before.before.before.before.before.before.before.before.before.before.before.before.before.before.before.bit.ensures.0 c.before.before.before.before.before.before.before.before.before.before.before.before.before.before.before.before.before.before.before.before.before.before.before.bit2.ensures.0 c.before.before.before.before.before.before.before.before.before.before.before.before.before.before.before.before.before.before.before.before.before.before.bit3.ensures.0 c.before.before.before.before.before.before.before.before.before.before.before.before.before.before.before.before.before.before.before.before.before.small.ensures c.before.before.before.before.before.before.before.before.before.before.before.before.before.before.before.before.before.before.put.ensures c.before.before.before.before.before.before.before.before.before.before.before.before.before.before.number.ensures c.before.before.before.before.before.before.before.before.before.before.number-if.ensures c.before.before.before.before.before.before.boxed-if.ensures c.before.before.number-if2.ensures
+returns c = action_response_by _ _ _ c.before.before.before.before.before.before.before.before.before.before.before.before.before.before.before.before.before.before.before.before.before.before.before.before.bit.ensures.0 c.before.before.before.before.before.before.before.before.before.before.before.before.before.before.before.before.before.before.before.before.before.before.before.bit2.ensures.0 c.before.before.before.before.before.before.before.before.before.before.before.before.before.before.before.before.before.before.before.before.before.before.bit3.ensures.0 c.before.before.before.before.before.before.before.before.before.before.before.before.before.before.before.before.before.before.before.before.before.small.ensures c.before.before.before.before.before.before.before.before.before.before.before.before.before.before.before.before.before.before.put.ensures c.before.before.before.before.before.before.before.before.before.before.before.before.before.before.number.ensures c.before.before.before.before.before.before.before.before.before.before.number-if.ensures c.before.before.before.before.before.before.boxed-if.ensures c.before.before.number-if2.ensures
 
 pub action-response-spec : {M : Type 1} → statement M
 action-response-spec =

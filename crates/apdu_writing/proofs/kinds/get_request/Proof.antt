@@ -1,6 +1,6 @@
 -- The leading part and then the components, one after the other.
 -- Assumes nothing.
-use Rattle.apdu_writing.proofs.Messages.{get-request-by}
+use Rattle.apdu_writing.proofs.Messages.{get_request_by}
 use borrow.Author.Rules.{rules}
 use Rattle.apdu_writing.proofs.kinds.get_request.Statement.{statement}
 use Rattle.apdu_writing.proofs.kinds.get_request.Tie as tie
@@ -60,7 +60,7 @@ same_length : tie.Need-same-length
 same_length c = search rules
 
 returns : tie.Need-returns
-returns c = get-request-by _ _ c.before.before.before.before.before.before.before.before.before.before.before.before.before.before.before.before.before.before.before.before.before.before.before.before.bit.ensures.0 c.before.before.before.before.before.before.before.before.before.before.before.before.before.before.before.before.before.before.before.before.before.before.before.bit2.ensures.0 c.before.before.before.before.before.before.before.before.before.before.before.before.before.before.before.before.before.before.before.before.before.before.bit3.ensures.0 c.before.before.before.before.before.before.before.before.before.before.before.before.before.before.before.before.before.before.before.before.before.small.ensures c.before.before.before.before.before.before.before.before.before.before.before.before.before.before.before.before.before.before.put.ensures c.before.before.before.before.before.before.before.before.before.before.before.before.before.before.number.ensures c.before.before.before.before.before.before.before.before.before.before.string-if.ensures c.before.before.before.before.before.before.number-if.ensures c.before.before.ids-if.ensures
+returns c = get_request_by _ _ c.before.before.before.before.before.before.before.before.before.before.before.before.before.before.before.before.before.before.before.before.before.before.before.before.bit.ensures.0 c.before.before.before.before.before.before.before.before.before.before.before.before.before.before.before.before.before.before.before.before.before.before.before.bit2.ensures.0 c.before.before.before.before.before.before.before.before.before.before.before.before.before.before.before.before.before.before.before.before.before.before.bit3.ensures.0 c.before.before.before.before.before.before.before.before.before.before.before.before.before.before.before.before.before.before.before.before.before.small.ensures c.before.before.before.before.before.before.before.before.before.before.before.before.before.before.before.before.before.before.put.ensures c.before.before.before.before.before.before.before.before.before.before.before.before.before.before.number.ensures c.before.before.before.before.before.before.before.before.before.before.string-if.ensures c.before.before.before.before.before.before.number-if.ensures c.before.before.ids-if.ensures
 
 pub get-request-spec : {M : Type 1} → statement M
 get-request-spec =

@@ -1,7 +1,7 @@
 -- The choice with the leading part, and then the components, one after the other.
 -- Assumes nothing.
 use mathlib.Core.Path.{◌∙◌}
-use Rattle.apdu_writing.proofs.Messages.{request-by}
+use Rattle.apdu_writing.proofs.Messages.{request_by}
 use borrow.Author.Rules.{rules}
 use Rattle.apdu_writing.proofs.kinds.request.Statement.{statement}
 use Rattle.apdu_writing.proofs.kinds.request.Tie as tie
@@ -64,7 +64,7 @@ same_length : tie.Need-same-length
 same_length c = c.before.before.number-if.auto.1.1.0 ∙ c.before.before.before.before.before.before.boxed-if.auto.1.1.1.1.1.1.1.0 ∙ c.before.before.before.before.before.before.before.before.before.before.string-if.auto.1.1.1.1.0 ∙ c.before.before.before.before.before.before.before.before.before.before.before.before.before.before.number2.auto.1.0 ∙ c.before.before.before.before.before.before.before.before.before.before.before.before.before.before.before.before.before.before.number.auto.1.0 ∙ c.before.before.before.before.before.before.before.before.before.before.before.before.before.before.before.before.before.before.before.before.before.before.put.auto.0
 
 returns : tie.Need-returns
-returns c = request-by _ _ _ _ c.before.before.before.before.before.before.before.before.before.before.before.before.before.before.before.before.before.before.before.before.before.before.before.before.before.before.before.before.before.before.requires c.before.before.before.before.before.before.before.before.before.before.before.before.before.before.before.before.before.before.before.before.before.before.before.before.before.before.before.bit.ensures.0 c.before.before.before.before.before.before.before.before.before.before.before.before.before.before.before.before.before.before.before.before.before.before.before.before.before.before.bit2.ensures.0 c.before.before.before.before.before.before.before.before.before.before.before.before.before.before.before.before.before.before.before.before.before.before.before.before.before.bit3.ensures.0 c.before.before.before.before.before.before.before.before.before.before.before.before.before.before.before.before.before.before.before.before.before.before.before.before.bit4.ensures.0 c.before.before.before.before.before.before.before.before.before.before.before.before.before.before.before.before.before.before.before.before.before.before.put.ensures c.before.before.before.before.before.before.before.before.before.before.before.before.before.before.before.before.before.before.number.ensures c.before.before.before.before.before.before.before.before.before.before.before.before.before.before.number2.ensures c.before.before.before.before.before.before.before.before.before.before.string-if.ensures c.before.before.before.before.before.before.boxed-if.ensures c.before.before.number-if.ensures
+returns c = request_by _ _ _ _ c.before.before.before.before.before.before.before.before.before.before.before.before.before.before.before.before.before.before.before.before.before.before.before.before.before.before.before.before.before.before.requires c.before.before.before.before.before.before.before.before.before.before.before.before.before.before.before.before.before.before.before.before.before.before.before.before.before.before.before.bit.ensures.0 c.before.before.before.before.before.before.before.before.before.before.before.before.before.before.before.before.before.before.before.before.before.before.before.before.before.before.bit2.ensures.0 c.before.before.before.before.before.before.before.before.before.before.before.before.before.before.before.before.before.before.before.before.before.before.before.before.before.bit3.ensures.0 c.before.before.before.before.before.before.before.before.before.before.before.before.before.before.before.before.before.before.before.before.before.before.before.before.bit4.ensures.0 c.before.before.before.before.before.before.before.before.before.before.before.before.before.before.before.before.before.before.before.before.before.before.put.ensures c.before.before.before.before.before.before.before.before.before.before.before.before.before.before.before.before.before.before.number.ensures c.before.before.before.before.before.before.before.before.before.before.before.before.before.before.number2.ensures c.before.before.before.before.before.before.before.before.before.before.string-if.ensures c.before.before.before.before.before.before.boxed-if.ensures c.before.before.number-if.ensures
 
 pub request-spec : {M : Type 1} → statement M
 request-spec =

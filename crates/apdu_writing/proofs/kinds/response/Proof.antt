@@ -1,6 +1,6 @@
 -- The choice with the leading part, and then the components, one after the other.
 -- Assumes nothing.
-use Rattle.apdu_writing.proofs.Leads.{response-by}
+use Rattle.apdu_writing.proofs.Leads.{response_by}
 use borrow.Author.Rules.{rules}
 use Rattle.apdu_writing.proofs.kinds.response.Statement.{statement}
 use Rattle.apdu_writing.proofs.kinds.response.Tie as tie
@@ -48,7 +48,7 @@ same_length : tie.Need-same-length
 same_length c = search rules
 
 returns : tie.Need-returns
-returns c = response-by _ _ c.before.before.before.before.before.before.before.before.before.before.before.before.before.before.before.before.before.before.before.before.before.requires c.before.before.before.before.before.before.before.before.before.before.before.before.before.before.before.before.before.before.before.bit.ensures.0 c.before.before.before.before.before.before.before.before.before.before.before.before.before.before.before.before.before.before.bit2.ensures.0 c.before.before.before.before.before.before.before.before.before.before.before.before.before.before.before.before.before.small.ensures c.before.before.before.before.before.before.before.before.before.before.before.before.before.before.put.ensures c.before.before.before.before.before.before.before.before.before.before.number.ensures c.before.before.before.before.before.before.number-if.ensures c.before.before.number-if2.ensures
+returns c = response_by _ _ c.before.before.before.before.before.before.before.before.before.before.before.before.before.before.before.before.before.before.before.before.before.requires c.before.before.before.before.before.before.before.before.before.before.before.before.before.before.before.before.before.before.before.bit.ensures.0 c.before.before.before.before.before.before.before.before.before.before.before.before.before.before.before.before.before.before.bit2.ensures.0 c.before.before.before.before.before.before.before.before.before.before.before.before.before.before.before.before.before.small.ensures c.before.before.before.before.before.before.before.before.before.before.before.before.before.before.put.ensures c.before.before.before.before.before.before.before.before.before.before.number.ensures c.before.before.before.before.before.before.number-if.ensures c.before.before.number-if2.ensures
 
 pub response-spec : {M : Type 1} → statement M
 response-spec =

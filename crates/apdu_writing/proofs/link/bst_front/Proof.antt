@@ -1,6 +1,6 @@
 -- The choice with the leading part, the time and the profile.
 -- Assumes nothing.
-use Rattle.apdu_writing.proofs.Links.{bst-front}
+use Rattle.apdu_writing.proofs.Links.{bst_front_law}
 use borrow.Author.Rules.{rules}
 use Rattle.apdu_writing.proofs.link.bst_front.Statement.{statement}
 use Rattle.apdu_writing.proofs.link.bst_front.Tie as tie
@@ -45,7 +45,7 @@ same_length : tie.Need-same-length
 same_length c = search rules
 
 returns : tie.Need-returns
-returns c = bst-front c.before.before.before.before.before.before.before.before.before.before.before.before.before.before.before.before.before.before.args.m c.before.before.before.before.before.before.before.before.before.before.before.before.before.before.before.before.bit.ensures.0 c.before.before.before.before.before.before.before.before.before.before.before.before.before.before.before.small.ensures c.before.before.before.before.before.before.before.before.before.before.before.before.before.before.small2.ensures c.before.before.before.before.before.before.before.before.before.before.put.ensures c.before.before.before.before.before.before.time.ensures c.before.before.number.ensures
+returns c = bst_front_law c.before.before.before.before.before.before.before.before.before.before.before.before.before.before.before.before.before.before.args.m c.before.before.before.before.before.before.before.before.before.before.before.before.before.before.before.before.bit.ensures.0 c.before.before.before.before.before.before.before.before.before.before.before.before.before.before.before.small.ensures c.before.before.before.before.before.before.before.before.before.before.before.before.before.before.small2.ensures c.before.before.before.before.before.before.before.before.before.before.put.ensures c.before.before.before.before.before.before.time.ensures c.before.before.number.ensures
 
 pub bst-front-spec : {M : Type 1} → statement M
 bst-front-spec =

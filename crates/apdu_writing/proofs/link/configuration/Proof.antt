@@ -1,6 +1,6 @@
 -- A configuration is its class with the presence bit, its maker and its status.
 -- Assumes nothing.
-use Rattle.apdu_writing.proofs.Links.{configuration-by}
+use Rattle.apdu_writing.proofs.Links.{configuration_by}
 use borrow.Author.Rules.{rules}
 use Rattle.apdu_writing.proofs.link.configuration.Statement.{statement}
 use Rattle.apdu_writing.proofs.link.configuration.Tie as tie
@@ -30,7 +30,7 @@ same_length : tie.Need-same-length
 same_length c = search rules
 
 returns : tie.Need-returns
-returns c = configuration-by c.before.before.before.before.before.before.before.before.before.before.before.before.before.before.before.args.p _ _ c.before.before.before.before.before.before.before.before.before.before.before.before.before.before.before.args.status c.before.before.before.before.before.before.before.before.before.before.before.before.before.bit.ensures.0 c.before.before.before.before.before.before.before.before.before.before.before.before.small.ensures c.before.before.before.before.before.before.before.before.before.before.put.ensures c.before.before.before.before.before.before.word.ensures c.before.before.word-if.ensures
+returns c = configuration_by c.before.before.before.before.before.before.before.before.before.before.before.before.before.before.before.args.p _ _ c.before.before.before.before.before.before.before.before.before.before.before.before.before.before.before.args.status c.before.before.before.before.before.before.before.before.before.before.before.before.before.bit.ensures.0 c.before.before.before.before.before.before.before.before.before.before.before.before.small.ensures c.before.before.before.before.before.before.before.before.before.before.put.ensures c.before.before.before.before.before.before.word.ensures c.before.before.word-if.ensures
 
 pub configuration-spec : {M : Type 1} → statement M
 configuration-spec =

@@ -1,6 +1,6 @@
 -- The part before the lists, the lists, and the part behind them.
 -- Assumes nothing.
-use Rattle.apdu_writing.proofs.Links.{link-by}
+use Rattle.apdu_writing.proofs.Links.{link_by}
 use borrow.Author.Rules.{rules}
 use Rattle.apdu_writing.proofs.link.link_message.Statement.{statement}
 use Rattle.apdu_writing.proofs.link.link_message.Tie as tie
@@ -18,7 +18,7 @@ same_length : tie.Need-same-length
 same_length c = search rules
 
 returns : tie.Need-returns
-returns c = link-by _ _ _ _ c.before.before.before.before.before.before.before.before.before.before.before.link-front.ensures c.before.before.before.before.before.before.entry-lists.ensures c.before.before.link-tail.ensures
+returns c = link_by _ _ _ _ c.before.before.before.before.before.before.before.before.before.before.before.link-front.ensures c.before.before.before.before.before.before.entry-lists.ensures c.before.before.link-tail.ensures
 
 pub link-message-spec : {M : Type 1} → statement M
 link-message-spec =

@@ -1,6 +1,6 @@
 -- The profiles of a BST, the configuration of a VST.
 -- Assumes nothing.
-use Rattle.apdu_writing.proofs.Links.{is-bst, is-vst, is-other}
+use Rattle.apdu_writing.proofs.Links.{is_bst, is_vst, is_other}
 use borrow.Author.Rules.{rules}
 use Rattle.apdu_writing.proofs.link.link_tail.Statement.{statement}
 use Rattle.apdu_writing.proofs.link.link_tail.Tie as tie
@@ -21,16 +21,16 @@ same_length : tie.Need-same-length
 same_length c = search rules
 
 returns : tie.Need-returns
-returns c = is-bst c.before.before.before.before.before.m.given.1 c.before.before.ids.ensures
+returns c = is_bst c.before.before.before.before.before.m.given.1 c.before.before.ids.ensures
 
 same-length-2 : tie.Need-same-length-2
 same-length-2 c = search rules
 
 returns-2 : tie.Need-returns-2
-returns-2 c = is-vst c.before.before.before.before.before.m2.given.1 c.before.before.configuration.ensures
+returns-2 c = is_vst c.before.before.before.before.before.m2.given.1 c.before.before.configuration.ensures
 
 returns-3 : tie.Need-returns-3
-returns-3 c = is-other c.match.keys3
+returns-3 c = is_other c.match.keys3
 
 pub link-tail-spec : {M : Type 1} → statement M
 link-tail-spec =

@@ -1,6 +1,6 @@
 -- The choice with the fill, and the profile.
 -- Assumes nothing.
-use Rattle.apdu_writing.proofs.Links.{vst-front}
+use Rattle.apdu_writing.proofs.Links.{vst_front_law}
 use borrow.Author.Rules.{rules}
 use Rattle.apdu_writing.proofs.link.vst_front.Statement.{statement}
 use Rattle.apdu_writing.proofs.link.vst_front.Tie as tie
@@ -24,7 +24,7 @@ same_length : tie.Need-same-length
 same_length c = search rules
 
 returns : tie.Need-returns
-returns c = vst-front c.before.before.before.before.before.before.before.before.before.before.before.args.m c.before.before.before.before.before.before.before.before.small.ensures c.before.before.before.before.before.before.put.ensures c.before.before.number.ensures
+returns c = vst_front_law c.before.before.before.before.before.before.before.before.before.before.before.args.m c.before.before.before.before.before.before.before.before.small.ensures c.before.before.before.before.before.before.put.ensures c.before.before.number.ensures
 
 pub vst-front-spec : {M : Type 1} → statement M
 vst-front-spec =

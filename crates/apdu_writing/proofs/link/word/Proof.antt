@@ -1,6 +1,6 @@
 -- A number is one field.
 -- Assumes nothing.
-use Rattle.apdu_writing.proofs.Links.{word-by}
+use Rattle.apdu_writing.proofs.Links.{word_by}
 use borrow.Author.Rules.{rules}
 use Rattle.apdu_writing.proofs.link.word.Statement.{statement}
 use Rattle.apdu_writing.proofs.link.word.Tie as tie
@@ -12,7 +12,7 @@ same_length : tie.Need-same-length
 same_length c = search rules
 
 returns : tie.Need-returns
-returns c = word-by _ c.before.before.put.ensures
+returns c = word_by _ c.before.before.put.ensures
 
 pub word-spec : {M : Type 1} → statement M
 word-spec = tie.close (tie.spec put-requires same_length returns)

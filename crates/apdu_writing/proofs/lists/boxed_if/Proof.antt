@@ -1,6 +1,6 @@
 -- It is written or passed over.
 -- Assumes nothing.
-use Rattle.apdu_writing.proofs.Components.{there-sound, absent-sound}
+use Rattle.apdu_writing.proofs.Components.{there_sound, absent_sound}
 use borrow.Author.Rules.{rules}
 use Rattle.apdu_writing.proofs.lists.boxed_if.Statement.{statement}
 use Rattle.apdu_writing.proofs.lists.boxed_if.Tie as tie
@@ -12,10 +12,10 @@ same_length : tie.Need-same-length
 same_length c = search rules
 
 returns : tie.Need-returns
-returns c = there-sound _ c.before.before.before.before.if1.true c.before.before.boxed.ensures
+returns c = there_sound _ c.before.before.before.before.if1.true c.before.before.boxed.ensures
 
 returns-2 : tie.Need-returns-2
-returns-2 c = absent-sound _ _ _ _ _ c.if1.false _
+returns-2 c = absent_sound _ _ _ _ _ c.if1.false _
 
 pub boxed-if-spec : {M : Type 1} → statement M
 boxed-if-spec = tie.close (tie.spec boxed-requires same_length returns returns-2)

@@ -1,6 +1,6 @@
 -- Each kind is put by its function.
 -- Assumes nothing.
-use Rattle.apdu_writing.proofs.AnyKind.{put-0, put_1, put_2, put_3, put_4, put-5, put-6, put-7, put-link}
+use Rattle.apdu_writing.proofs.AnyKind.{put_0, put_1, put_2, put_3, put_4, put_5, put_6, put_7, put_link_law}
 use borrow.Author.Rules.{rules}
 use Rattle.apdu_writing.proofs.message.put_message.Statement.{statement}
 use Rattle.apdu_writing.proofs.message.put_message.Tie as tie
@@ -75,13 +75,13 @@ same_length : tie.Need-same-length
 same_length c = search rules
 
 returns : tie.Need-returns
-returns c = put-0 _ _ _ _ c.before.before.before.before.before.before.m.given.1 c.before.before.before.request.ensures c.within.ensures
+returns c = put_0 _ _ _ _ c.before.before.before.before.before.before.m.given.1 c.before.before.before.request.ensures c.within.ensures
 
 same-length-2 : tie.Need-same-length-2
 same-length-2 c = search rules
 
 returns-2 : tie.Need-returns-2
-returns-2 c = put_1 _ _ _ _ c.before.before.before.before.before.before.m2.given.1 c.before.before.before.action-response.ensures c.within2.ensures
+returns-2 c = put_1 _ _ _ _ c.before.before.before.before.before.before.m2.given.1 c.before.before.before.action_response_law.ensures c.within2.ensures
 
 same-length-3 : tie.Need-same-length-3
 same-length-3 c = search rules
@@ -99,31 +99,31 @@ same-length-5 : tie.Need-same-length-5
 same-length-5 c = search rules
 
 returns-5 : tie.Need-returns-5
-returns-5 c = put_4 _ _ _ _ c.before.before.before.before.before.before.m5.given.1 c.before.before.before.set-request.ensures c.within4.ensures
+returns-5 c = put_4 _ _ _ _ c.before.before.before.before.before.before.m5.given.1 c.before.before.before.set_request_law.ensures c.within4.ensures
 
 same-length-6 : tie.Need-same-length-6
 same-length-6 c = search rules
 
 returns-6 : tie.Need-returns-6
-returns-6 c = put-5 _ _ _ _ c.before.before.before.before.before.m6.given.1 c.before.before.response2.ensures
+returns-6 c = put_5 _ _ _ _ c.before.before.before.before.before.m6.given.1 c.before.before.response2.ensures
 
 same-length-7 : tie.Need-same-length-7
 same-length-7 c = search rules
 
 returns-7 : tie.Need-returns-7
-returns-7 c = put-6 _ _ _ _ c.before.before.before.before.before.m7.given.1 c.before.before.get-request.ensures
+returns-7 c = put_6 _ _ _ _ c.before.before.before.before.before.m7.given.1 c.before.before.get_request_law.ensures
 
 same-length-8 : tie.Need-same-length-8
 same-length-8 c = search rules
 
 returns-8 : tie.Need-returns-8
-returns-8 c = put-7 _ _ _ _ c.before.before.before.before.before.before.m8.given.1 c.before.before.before.get-response.ensures c.within5.ensures
+returns-8 c = put_7 _ _ _ _ c.before.before.before.before.before.before.m8.given.1 c.before.before.before.get_response_law.ensures c.within5.ensures
 
 same-length-9 : tie.Need-same-length-9
 same-length-9 c = search rules
 
 returns-9 : tie.Need-returns-9
-returns-9 c = put-link _ _ _ _ c.before.before.before.before.match.keys9 c.before.before.link-message.ensures
+returns-9 c = put_link_law _ _ _ _ c.before.before.before.before.match.keys9 c.before.before.link-message.ensures
 
 pub put-message-spec : {M : Type 1} → statement M
 put-message-spec =

@@ -1,13 +1,13 @@
 -- `put` goes by the three ways of `behind`: stopped before, out of range, written.
 -- Assumes nothing.
-use Rattle.apdu_writing.proofs.Quills.{put-stopped, put_wrong, put-done}
+use Rattle.apdu_writing.proofs.Quills.{put_stopped, put_wrong, put_done}
 use borrow.Author.Tests.{not-true, not-false}
 use borrow.Author.Rules.{rules}
 use Rattle.apdu_writing.proofs.quill.put.Statement.{statement}
 use Rattle.apdu_writing.proofs.quill.put.Tie as tie
 
 returns : tie.Need-returns
-returns c = put-stopped c.if1.true
+returns c = put_stopped c.if1.true
 
 returns-2 : tie.Need-returns-2
 returns-2 c = put_wrong c.before.if1.false (not-true _ c.if2.true)
@@ -31,7 +31,7 @@ same_length : tie.Need-same-length
 same_length c = search rules
 
 returns-3 : tie.Need-returns-3
-returns-3 c = put-done c.before.before.before.before.before.before.before.if1.false (not-false _ c.before.before.before.before.before.before.if2.false) c.before.before.before.write-field.ensures.1 c.beyond.ensures
+returns-3 c = put_done c.before.before.before.before.before.before.before.if1.false (not-false _ c.before.before.before.before.before.before.if2.false) c.before.before.before.write-field.ensures.1 c.beyond.ensures
 
 pub put_spec : {M : Type 1} → statement M
 put_spec =

@@ -1,5 +1,5 @@
 -- `attributes::calls::echo` meets its contract: the reply's record is sent. Assumes nothing.
-use Rattle.attributes.specs.Serving.{echoReply}
+use Rattle.attributes.specs.Serving.{echo_reply}
 use borrow.Author.Rules.{rules}
 use Rattle.attributes.proofs.calls.echo.Statement.{statement}
 use Rattle.attributes.proofs.calls.echo.Tie as tie
@@ -14,7 +14,7 @@ same_length : tie.Need-same-length
 same_length c = search rules
 
 returns : tie.Need-returns
-unfolding echoReply
+unfolding echo_reply
 returns c = rw (← c.before.before.before.before.no_rows.ensures) c.before.before.send.ensures
 
 pub echo-spec : {M : Type 1} → statement M

@@ -1,10 +1,10 @@
 -- `attributes::credentials::are_exact` meets its contract: given, as long, and the same. Assumes nothing.
-use Rattle.attributes.proofs.Serves.{none-given, other_length, as_long}
+use Rattle.attributes.proofs.Serves.{none_given, other_length, as_long}
 use Rattle.attributes.proofs.credentials.are_exact.Statement.{statement}
 use Rattle.attributes.proofs.credentials.are_exact.Tie as tie
 
 returns : tie.Need-returns
-returns c = none-given _ _ _ _ _ c.if1.true
+returns c = none_given _ _ _ _ _ c.if1.true
 
 returns-2 : tie.Need-returns-2
 returns-2 c = other_length _ _ _ _ _ c.before.if1.false c.if2.true

@@ -1,14 +1,14 @@
 -- `attributes::getting::get_status` meets its contract: the eid, the id list, then the ids. Assumes nothing.
-use Rattle.attributes.proofs.Outcomes.{get-eid, get-no-ids, get_rows}
+use Rattle.attributes.proofs.Outcomes.{get_eid, get_no_ids, get_rows}
 use borrow.Author.Rules.{rules}
 use Rattle.attributes.proofs.getting.get_status.Statement.{statement}
 use Rattle.attributes.proofs.getting.get_status.Tie as tie
 
 returns : tie.Need-returns
-returns c = get-eid _ _ _ _ _ c.if1.true
+returns c = get_eid _ _ _ _ _ c.if1.true
 
 returns-2 : tie.Need-returns-2
-returns-2 c = get-no-ids _ _ _ _ _ c.before.before.if1.false c.if2.true
+returns-2 c = get_no_ids _ _ _ _ _ c.before.before.if1.false c.if2.true
 
 are-exact-requires : tie.Need-are-exact-requires
 are-exact-requires c κs = search rules

@@ -6,13 +6,13 @@ use mathlib.Core.List.{List}
 use Prim.Native.Nat.{ℕ}
 use Rattle.refusals.specs.Check.{first_of}
 use Rattle.directory.specs.Gathered.{list_of}
-use Rattle.attributes.specs.Serving.{getFaults, idsFrom}
-use Rattle.attributes.proofs.Faults.{ids_all, idsLeft, ids-fault, ids-pass, ids-end}
+use Rattle.attributes.specs.Serving.{get_faults, ids_from}
+use Rattle.attributes.proofs.Faults.{ids_all, ids_left, ids_fault, ids_pass, ids_end}
 use Rattle.attributes.proofs.getting.ids_status.Statement.{statement}
 use Rattle.attributes.proofs.getting.ids_status.Tie as tie
 
 abbrev invariant-loop : tie.invariant-loop
-invariant-loop s ids count d exact i₀ i = (i ≤ count) × (first_of (getFaults (list_of d) exact (idsFrom s ids count)) ≡ idsLeft s ids count (list_of d) exact i)
+invariant-loop s ids count d exact i₀ i = (i ≤ count) × (first_of (get_faults (list_of d) exact (ids_from s ids count)) ≡ ids_left s ids count (list_of d) exact i)
 
 abbrev decreases-loop : tie.decreases-loop
 decreases-loop s ids count d exact i₀ i = count - i
@@ -20,7 +20,7 @@ decreases-loop s ids count d exact i₀ i = count - i
 loop-holds : tie.Need-loop-init invariant-loop decreases-loop
 loop-holds c =
     let a = c.before.args in
-    (omega arith, ap (λ (l : List ℕ). first_of (getFaults (list_of a.d) a.exact l)) (ids_all a.s.now a.ids a.count))
+    (omega arith, ap (λ (l : List ℕ). first_of (get_faults (list_of a.d) a.exact l)) (ids_all a.s.now a.ids a.count))
 
 mul-id-status : tie.Need-overflow-mul-id-status invariant-loop decreases-loop
 mul-id-status c = omega arith
@@ -34,7 +34,7 @@ id-status-requires c κs = (omega arith, c.before.before.before.requires.1)
 returns : tie.Need-returns invariant-loop decreases-loop
 returns c =
     let l = c.before.before.before in
-    sym (l.loop.invariant.1 ∙ ids-fault _ _ _ _ _ l.loop.i c.before.before.loop-test.true c.before.id-status.ensures c.if1.true)
+    sym (l.loop.invariant.1 ∙ ids_fault _ _ _ _ _ l.loop.i c.before.before.loop-test.true c.before.id-status.ensures c.if1.true)
 
 add-i : tie.Need-overflow-add-i invariant-loop decreases-loop
 add-i c = omega arith
@@ -45,10 +45,10 @@ loop-less c = omega arith
 loop-again : tie.Need-loop-preserved invariant-loop decreases-loop
 loop-again c =
     let l = c.before.before.before in
-    (omega arith, l.loop.invariant.1 ∙ ids-pass _ _ _ _ _ l.loop.i c.before.before.loop-test.true c.before.id-status.ensures c.if1.false)
+    (omega arith, l.loop.invariant.1 ∙ ids_pass _ _ _ _ _ l.loop.i c.before.before.loop-test.true c.before.id-status.ensures c.if1.false)
 
 returns-2 : tie.Need-returns-2 invariant-loop decreases-loop
-returns-2 c = sym (c.before.loop.invariant.1 ∙ ids-end _ _ _ _ _ c.before.loop.i (omega arith))
+returns-2 c = sym (c.before.loop.invariant.1 ∙ ids_end _ _ _ _ _ c.before.loop.i (omega arith))
 
 pub ids-status-spec : {M : Type 1} → statement M
 ids-status-spec =

@@ -1,6 +1,6 @@
 -- `attributes::getting::send_values` meets its contract: what stands behind the values plays no part. Assumes nothing.
 use mathlib.Core.Path.{sym}
-use Rattle.attributes.proofs.Sending.{sends-same}
+use Rattle.attributes.proofs.Sending.{sends_same}
 use Rattle.attributes.proofs.ValueReply.{values_same}
 use borrow.Author.Rules.{rules}
 use Rattle.attributes.proofs.getting.send_values.Statement.{statement}
@@ -19,7 +19,7 @@ same_length : tie.Need-same-length
 same_length c = search rules
 
 returns : tie.Need-returns
-returns c = sends-same (λ w. values_same _ _ _ c.before.before.before.before.before.before.before.before.before.before.before.before.requires.1 _ _ c.before.before.before.before.before.before.before.gather-values.ensures w _) c.before.before.send.ensures
+returns c = sends_same (λ w. values_same _ _ _ c.before.before.before.before.before.before.before.before.before.before.before.before.requires.1 _ _ c.before.before.before.before.before.before.before.gather-values.ensures w _) c.before.before.send.ensures
 
 pub send-values-spec : {M : Type 1} → statement M
 send-values-spec =

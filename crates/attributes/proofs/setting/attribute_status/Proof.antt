@@ -1,6 +1,6 @@
 -- `attributes::setting::attribute_status` meets its contract: 2 before 1, each way out. Assumes nothing.
 use borrow.Author.Rules.{rules}
-use Rattle.attributes.proofs.Faults.{set-unknown, set-kind, set-length, set-factory, set_free, set-exact, set-denied}
+use Rattle.attributes.proofs.Faults.{set_unknown, set_kind, set_length, set_factory, set_free, set_exact, set_denied}
 use Rattle.attributes.proofs.setting.attribute_status.Statement.{statement}
 use Rattle.attributes.proofs.setting.attribute_status.Tie as tie
 
@@ -11,10 +11,10 @@ find-requires : tie.Need-find-requires
 find-requires c κs = search rules
 
 returns : tie.Need-returns
-returns c = let a = c.before.before in set-unknown _ a.before.before.requires _ _ a.find.ensures c.if1.true
+returns c = let a = c.before.before in set_unknown _ a.before.before.requires _ _ a.find.ensures c.if1.true
 
 returns-2 : tie.Need-returns-2
-returns-2 c = let b = c.before.before in let a = b.before.before in set-kind _ a.before.before.requires _ _ a.find.ensures b.if1.false c.if2.true
+returns-2 c = let b = c.before.before in let a = b.before.before in set_kind _ a.before.before.requires _ _ a.find.ensures b.if1.false c.if2.true
 
 cast-if3 : tie.Need-overflow-cast-if3
 cast-if3 c = search rules
@@ -24,7 +24,7 @@ returns-3 c =
     let d = c.before.before.before.before in
     let b = d.before.before in
     let a = b.before.before in
-    set-length _ a.before.before.requires _ _ a.find.ensures b.if1.false d.if2.false c.if3.true
+    set_length _ a.before.before.requires _ _ a.find.ensures b.if1.false d.if2.false c.if3.true
 
 returns-4 : tie.Need-returns-4
 returns-4 c =
@@ -32,7 +32,7 @@ returns-4 c =
     let d = e.before.before.before.before in
     let b = d.before.before in
     let a = b.before.before in
-    set-factory _ a.before.before.requires _ _ a.find.ensures b.if1.false d.if2.false e.if3.false c.if4.true
+    set_factory _ a.before.before.requires _ _ a.find.ensures b.if1.false d.if2.false e.if3.false c.if4.true
 
 returns-5 : tie.Need-returns-5
 returns-5 c =
@@ -50,7 +50,7 @@ returns-6 c =
     let d = e.before.before.before.before in
     let b = d.before.before in
     let a = b.before.before in
-    set-exact _ a.before.before.requires _ _ a.find.ensures b.if1.false d.if2.false e.if3.false f.if4.false c.before.if5.false c.if6.true
+    set_exact _ a.before.before.requires _ _ a.find.ensures b.if1.false d.if2.false e.if3.false f.if4.false c.before.if5.false c.if6.true
 
 returns-7 : tie.Need-returns-7
 returns-7 c =
@@ -59,7 +59,7 @@ returns-7 c =
     let d = e.before.before.before.before in
     let b = d.before.before in
     let a = b.before.before in
-    set-denied _ a.before.before.requires _ _ a.find.ensures b.if1.false d.if2.false e.if3.false f.if4.false c.before.if5.false c.if6.false
+    set_denied _ a.before.before.requires _ _ a.find.ensures b.if1.false d.if2.false e.if3.false f.if4.false c.before.if5.false c.if6.false
 
 pub attribute-status-spec : {M : Type 1} → statement M
 attribute-status-spec =

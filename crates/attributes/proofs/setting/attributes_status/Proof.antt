@@ -6,13 +6,13 @@ use lib.ListN.{length, take}
 use Rattle.refusals.specs.Check.{first_of}
 use Rattle.directory.specs.Gathered.{list_of}
 use Rattle.apdu.proofs.Tables.{long}
-use Rattle.attributes.specs.Serving.{setFaults}
-use Rattle.attributes.proofs.Faults.{setsLeft, sets-fault, sets-pass, sets_end}
+use Rattle.attributes.specs.Serving.{set_faults}
+use Rattle.attributes.proofs.Faults.{sets_left, sets_fault, sets_pass, sets_end}
 use Rattle.attributes.proofs.setting.attributes_status.Statement.{statement}
 use Rattle.attributes.proofs.setting.attributes_status.Tie as tie
 
 abbrev invariant-loop : tie.invariant-loop
-invariant-loop count d exact attributes i₀ i = (i ≤ count) × (first_of (setFaults (list_of d) exact (take count attributes)) ≡ setsLeft attributes count (list_of d) exact i)
+invariant-loop count d exact attributes i₀ i = (i ≤ count) × (first_of (set_faults (list_of d) exact (take count attributes)) ≡ sets_left attributes count (list_of d) exact i)
 
 abbrev decreases-loop : tie.decreases-loop
 decreases-loop count d exact attributes i₀ i = count - i
@@ -34,7 +34,7 @@ returns c =
     let l = c.before.before.before.before in
     let a = l.before in
     let t : length a.args.t1 ≡ 32 = search (long, a.well-formed.0.1) in
-    sym (l.loop.invariant.1 ∙ sets-fault _ _ (omega arith) _ _ l.loop.i c.before.before.before.loop-test.true c.before.attribute-status.ensures c.if1.true)
+    sym (l.loop.invariant.1 ∙ sets_fault _ _ (omega arith) _ _ l.loop.i c.before.before.before.loop-test.true c.before.attribute-status.ensures c.if1.true)
 
 add-i : tie.Need-overflow-add-i invariant-loop decreases-loop
 add-i c = omega arith
@@ -47,7 +47,7 @@ loop-again c =
     let l = c.before.before.before.before in
     let a = l.before in
     let t : length a.args.t1 ≡ 32 = search (long, a.well-formed.0.1) in
-    (omega arith, l.loop.invariant.1 ∙ sets-pass _ _ (omega arith) _ _ l.loop.i c.before.before.before.loop-test.true c.before.attribute-status.ensures c.if1.false)
+    (omega arith, l.loop.invariant.1 ∙ sets_pass _ _ (omega arith) _ _ l.loop.i c.before.before.before.loop-test.true c.before.attribute-status.ensures c.if1.false)
 
 returns-2 : tie.Need-returns-2 invariant-loop decreases-loop
 returns-2 c =

@@ -1,5 +1,5 @@
 -- `attributes::setting::send_status` meets its contract: the reply's record is sent. Assumes nothing.
-use Rattle.attributes.specs.Serving.{setReply}
+use Rattle.attributes.specs.Serving.{set_reply}
 use borrow.Author.Rules.{rules}
 use Rattle.attributes.proofs.setting.send_status.Statement.{statement}
 use Rattle.attributes.proofs.setting.send_status.Tie as tie
@@ -14,7 +14,7 @@ same_length : tie.Need-same-length
 same_length c = search rules
 
 returns : tie.Need-returns
-unfolding setReply
+unfolding set_reply
 returns c = rw (← c.before.before.before.before.no_rows.ensures) c.before.before.send.ensures
 
 pub send-status-spec : {M : Type 1} → statement M

@@ -1,5 +1,5 @@
 -- `attributes::setting::set` meets its contract: with mode 0 no reply. Assumes nothing.
-use Rattle.attributes.proofs.Outcomes.{set_silent, set-replied}
+use Rattle.attributes.proofs.Outcomes.{set_silent, set_replied}
 use borrow.Author.Rules.{rules}
 use Rattle.attributes.proofs.setting.set.Statement.{statement}
 use Rattle.attributes.proofs.setting.set.Tie as tie
@@ -26,7 +26,7 @@ same-length-3 : tie.Need-same-length-3
 same-length-3 c = search rules
 
 returns-2 : tie.Need-returns-2
-returns-2 c = set-replied _ _ _ _ _ _ _ _ c.before.before.before.before.before.before.before.before.before.before.set-status.ensures c.before.before.before.before.before.before.before.before.set_all.ensures c.before.before.before.before.if1.false c.before.before.send-status.ensures
+returns-2 c = set_replied _ _ _ _ _ _ _ _ c.before.before.before.before.before.before.before.before.before.before.set-status.ensures c.before.before.before.before.before.before.before.before.set_all.ensures c.before.before.before.before.if1.false c.before.before.send-status.ensures
 
 pub set_spec : {M : Type 1} → statement M
 set_spec =

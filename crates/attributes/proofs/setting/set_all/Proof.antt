@@ -11,7 +11,7 @@ same_length : tie.Need-same-length
 same_length c = search rules
 
 returns : tie.Need-returns
-returns c = rw (eq-eqb _ _ c.before.before.before.before.if1.true) c.before.before.set-rows.ensures
+returns c = rw (eq-eqb _ _ c.before.before.before.before.if1.true) c.before.before.set_rows_law.ensures
 
 returns-2 : tie.Need-returns-2
 returns-2 c = rw (ne_eqb _ _ c.if1.false)

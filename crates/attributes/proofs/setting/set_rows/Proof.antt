@@ -5,7 +5,7 @@ use mathlib.Core.Path.{◌≡◌, refl, ap, sym, ◌∙◌}
 use lib.ListN.{length, take}
 use Rattle.directory.specs.Gathered.{list_of}
 use Rattle.apdu.proofs.Tables.{long}
-use Rattle.attributes.specs.Serving.{setRows}
+use Rattle.attributes.specs.Serving.{set_rows}
 use Rattle.attributes.proofs.Faults.{from, rows_more, rows_end}
 use Rattle.attributes.proofs.setting.set_rows.Statement.{statement}
 use Rattle.attributes.proofs.setting.set_rows.Tie as tie
@@ -13,7 +13,7 @@ use Rattle.attributes.proofs.setting.set_rows.Tie as tie
 abbrev invariant-loop : tie.invariant-loop
 invariant-loop s count d writable₀ attributes i₀ writable i =
     (i ≤ count) × (length writable ≡ length writable₀)
-    × (setRows s (list_of d) (take count attributes) writable₀ ≡ setRows s (list_of d) (from attributes count i) writable)
+    × (set_rows s (list_of d) (take count attributes) writable₀ ≡ set_rows s (list_of d) (from attributes count i) writable)
 
 abbrev decreases-loop : tie.decreases-loop
 decreases-loop s count d writable₀ attributes i₀ writable i = count - i
@@ -44,7 +44,7 @@ loop-again c =
       omega arith,
       c.before.before.set-row.auto.1.1.1.0 ∙ l.loop.invariant.1,
       l.loop.invariant.2 ∙ rows_more a.args.t2 a.args.count (omega arith) a.args.s.now (list_of a.args.d) l.loop.i l.loop.writable c.before.before.before.before.before.loop-test.true
-          ∙ ap (setRows a.args.s.now (list_of a.args.d) (from a.args.t2 a.args.count (l.loop.i + 1))) (sym c.before.before.set-row.ensures),
+          ∙ ap (set_rows a.args.s.now (list_of a.args.d) (from a.args.t2 a.args.count (l.loop.i + 1))) (sym c.before.before.set-row.ensures),
     )
 
 same_length : tie.Need-same-length invariant-loop decreases-loop

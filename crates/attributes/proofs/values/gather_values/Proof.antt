@@ -3,9 +3,9 @@ use native.Mathlib.Omega.{arith}
 use Prim.Native.Nat.{ℕ, ◌≤◌, ◌-◌}
 use mathlib.Core.Path.{ap, sym, ◌∙◌}
 use lib.ListN.{length, length-replicate}
-use Rattle.apdu.specs.Values.{emptyRow}
+use Rattle.apdu.specs.Values.{empty_row}
 use Rattle.directory.specs.Gathered.{list_of}
-use Rattle.attributes.proofs.Gathering.{Gathered, gathered_none, gathered-more, gathered-all, this-inside, this-short, this-room}
+use Rattle.attributes.proofs.Gathering.{Gathered, gathered_none, gathered_more, gathered_all, this_inside, this_short, this_room}
 use Rattle.attributes.proofs.values.gather_values.Statement.{statement}
 use Rattle.attributes.proofs.values.gather_values.Tie as tie
 
@@ -20,7 +20,7 @@ no-rows-requires : tie.Need-no-rows-requires invariant-loop decreases-loop
 no-rows-requires c κs = tt
 
 loop-holds : tie.Need-loop-init invariant-loop decreases-loop
-loop-holds c = (omega arith, gathered_none _ _ _ _ _ _ _ _ (length-replicate {A = ℕ} 2032 0) (ap length c.no_rows.ensures ∙ length-replicate 32 emptyRow))
+loop-holds c = (omega arith, gathered_none _ _ _ _ _ _ _ _ (length-replicate {A = ℕ} 2032 0) (ap length c.no_rows.ensures ∙ length-replicate 32 empty_row))
 
 mul-row-at : tie.Need-overflow-mul-row-at invariant-loop decreases-loop
 mul-row-at c = omega arith
@@ -42,26 +42,26 @@ put-value-requires c κs =
     let l = c.before.before.before.before in
     let a = c.before.before.before.before.before.before.before.before.before in
     let t = c.before.before.before.loop-test.true in
-    let k = this-room _ _ _ _ _ _ a.requires.2 a.requires.0 l.loop.i t l.loop.invariant.1 c.before.before.row_at.ensures in
-    (this-inside _ _ _ _ _ _ a.requires.2 a.requires.0 l.loop.i t l.loop.invariant.1 c.before.before.row_at.ensures, omega (arith, k, l.loop.invariant.1.long))
+    let k = this_room _ _ _ _ _ _ a.requires.2 a.requires.0 l.loop.i t l.loop.invariant.1 c.before.before.row_at.ensures in
+    (this_inside _ _ _ _ _ _ a.requires.2 a.requires.0 l.loop.i t l.loop.invariant.1 c.before.before.row_at.ensures, omega (arith, k, l.loop.invariant.1.long))
 
 cast-t20 : tie.Need-overflow-cast-t20 invariant-loop decreases-loop
 cast-t20 c =
     let l = c.before.before.before.before.before.before.before in
     let a = c.before.before.before.before.before.before.before.before.before.before.before.before in
-    omega (arith, this-short _ _ _ _ _ _ a.requires.2 a.requires.0 l.loop.i c.before.before.before.before.before.before.loop-test.true l.loop.invariant.1 c.before.before.before.before.before.row_at.ensures)
+    omega (arith, this_short _ _ _ _ _ _ a.requires.2 a.requires.0 l.loop.i c.before.before.before.before.before.before.loop-test.true l.loop.invariant.1 c.before.before.before.before.before.row_at.ensures)
 
 mul-t15 : tie.Need-overflow-mul-t15 invariant-loop decreases-loop
 mul-t15 c =
     let l = c.before.before.before.before.before.before.before in
     let a = c.before.before.before.before.before.before.before.before.before.before.before.before in
-    omega (arith, this-room _ _ _ _ _ _ a.requires.2 a.requires.0 l.loop.i c.before.before.before.before.before.before.loop-test.true l.loop.invariant.1 c.before.before.before.before.before.row_at.ensures)
+    omega (arith, this_room _ _ _ _ _ _ a.requires.2 a.requires.0 l.loop.i c.before.before.before.before.before.before.loop-test.true l.loop.invariant.1 c.before.before.before.before.before.row_at.ensures)
 
 cast-t21 : tie.Need-overflow-cast-t21 invariant-loop decreases-loop
 cast-t21 c =
     let l = c.before.before.before.before.before.before.before in
     let a = c.before.before.before.before.before.before.before.before.before.before.before.before in
-    omega (arith, this-room _ _ _ _ _ _ a.requires.2 a.requires.0 l.loop.i c.before.before.before.before.before.before.loop-test.true l.loop.invariant.1 c.before.before.before.before.before.row_at.ensures)
+    omega (arith, this_room _ _ _ _ _ _ a.requires.2 a.requires.0 l.loop.i c.before.before.before.before.before.before.loop-test.true l.loop.invariant.1 c.before.before.before.before.before.row_at.ensures)
 
 mul-attributes : tie.Need-overflow-mul-attributes invariant-loop decreases-loop
 mul-attributes c = omega arith
@@ -73,7 +73,7 @@ add_at : tie.Need-overflow-add-at invariant-loop decreases-loop
 add_at c =
     let l = c.before.before.before.before.before.before.before.before in
     let a = c.before.before.before.before.before.before.before.before.before.before.before.before.before in
-    omega (arith, this-room _ _ _ _ _ _ a.requires.2 a.requires.0 l.loop.i c.before.before.before.before.before.before.before.loop-test.true l.loop.invariant.1 c.before.before.before.before.before.before.row_at.ensures)
+    omega (arith, this_room _ _ _ _ _ _ a.requires.2 a.requires.0 l.loop.i c.before.before.before.before.before.before.before.loop-test.true l.loop.invariant.1 c.before.before.before.before.before.before.row_at.ensures)
 
 add-i : tie.Need-overflow-add-i invariant-loop decreases-loop
 add-i c = omega arith
@@ -85,10 +85,10 @@ loop-again : tie.Need-loop-preserved invariant-loop decreases-loop
 loop-again c =
     let l = c.before.before.before.before.before.before.before.before in
     let a = c.before.before.before.before.before.before.before.before.before.before.before.before.before in
-    (omega arith, gathered-more _ _ _ _ _ _ a.requires.2 a.requires.0 l.loop.i c.before.before.before.before.before.before.before.loop-test.true l.loop.invariant.1 c.before.before.before.before.before.before.row_at.ensures c.before.before.before.put-value.ensures)
+    (omega arith, gathered_more _ _ _ _ _ _ a.requires.2 a.requires.0 l.loop.i c.before.before.before.before.before.before.before.loop-test.true l.loop.invariant.1 c.before.before.before.before.before.before.row_at.ensures c.before.before.before.put-value.ensures)
 
 returns : tie.Need-returns invariant-loop decreases-loop
-returns c = gathered-all _ _ _ _ _ _ c.before.loop.i (omega arith) c.before.loop.invariant.1
+returns c = gathered_all _ _ _ _ _ _ c.before.loop.i (omega arith) c.before.loop.invariant.1
 
 pub gather-values-spec : {M : Type 1} → statement M
 gather-values-spec =

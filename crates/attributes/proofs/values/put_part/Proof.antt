@@ -1,8 +1,8 @@
 -- `attributes::values::put_part` meets its contract: the part is a string of whole octets. Assumes nothing.
 use mathlib.Core.Path.{◌∙◌}
 use borrow.Author.Rules.{rules}
-use Rattle.bits.proofs.Laws.{octets-known}
-use Rattle.attributes.proofs.Gathering.{part-copied}
+use Rattle.bits.proofs.Laws.{octets_known}
+use Rattle.attributes.proofs.Gathering.{part_copied}
 use Rattle.attributes.proofs.values.put_part.Statement.{statement}
 use Rattle.attributes.proofs.values.put_part.Tie as tie
 
@@ -27,7 +27,7 @@ same_length c = search rules
 returns : tie.Need-returns
 returns c =
     let a = c.before.before.before.before.before.before in
-    c.before.before.copy-string.ensures.1 ∙ part-copied _ _ _ _ _ (octets-known _ a.shared-slice-known.given) a.before.requires.0 a.before.requires.1
+    c.before.before.copy-string.ensures.1 ∙ part_copied _ _ _ _ _ (octets_known _ a.shared-slice-known.given) a.before.requires.0 a.before.requires.1
 
 pub put-part-spec : {M : Type 1} → statement M
 put-part-spec =

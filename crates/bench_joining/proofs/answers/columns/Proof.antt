@@ -2,7 +2,7 @@
 use borrow.Author.Rules.{rules}
 use mathlib.Core.Path.{◌∙◌, sym, ap}
 use Rattle.reassembly.specs.declared.FragmentAnswer.{FragmentAnswer}
-use Rattle.bench_joining.specs.Columns.{columnsOf}
+use Rattle.bench_joining.specs.Columns.{columns_of}
 use Rattle.bench_joining.proofs.answers.columns.Statement.{statement}
 use Rattle.bench_joining.proofs.answers.columns.Tie as tie
 
@@ -19,19 +19,19 @@ refused-requires : tie.Need-refused-requires
 refused-requires c κs = search rules
 
 returns : tie.Need-returns
-unfolding columnsOf
-returns c = sym (ap (λ (a : FragmentAnswer). columnsOf a c.before.before.before.args.held c.before.before.before.args.payload) c.before.answer.given.1)
+unfolding columns_of
+returns c = sym (ap (λ (a : FragmentAnswer). columns_of a c.before.before.before.args.held c.before.before.before.args.payload) c.before.answer.given.1)
 
 returns-2 : tie.Need-returns-2
-unfolding columnsOf
-returns-2 c = sym (ap (λ (a : FragmentAnswer). columnsOf a c.before.before.before.args.held c.before.before.before.args.payload) c.before.answer2.given.1)
+unfolding columns_of
+returns-2 c = sym (ap (λ (a : FragmentAnswer). columns_of a c.before.before.before.args.held c.before.before.before.args.payload) c.before.answer2.given.1)
 
 returns-3 : tie.Need-returns-3
-unfolding columnsOf
+unfolding columns_of
 returns-3 c =
     let c2 = c.before.before in
     let c4 = c2.before.before in
-    c.refused.ensures ∙ sym (ap (λ (a : FragmentAnswer). columnsOf a c4.args.held c4.args.payload) c2.answer3.given.1)
+    c.refused.ensures ∙ sym (ap (λ (a : FragmentAnswer). columns_of a c4.args.held c4.args.payload) c2.answer3.given.1)
 
 pub columns_spec : {M : Type 1} → statement M
 columns_spec =

@@ -1,9 +1,9 @@
 -- `bench_joining::joining::header_of` meets its contract: reading the header answers its fields or a refusal, and the definition takes the same two ways.
 -- Assumes nothing.
 use mathlib.Core.Path.{sym, ap, ◌∙◌}
-use Rattle.header.specs.Header.{readAnswer}
-use Rattle.reassembly.proofs.Headed.{fields_in, fields-are, fields-none}
-use Rattle.bench_joining.specs.Joined.{headedBy}
+use Rattle.header.specs.Header.{read_answer}
+use Rattle.reassembly.proofs.Headed.{fields_in, fields_are, fields_none}
+use Rattle.bench_joining.specs.Joined.{headed_by}
 use borrow.Author.Rules.{rules}
 use Rattle.bench_joining.proofs.joining.header_of.Statement.{statement}
 use Rattle.bench_joining.proofs.joining.header_of.Tie as tie
@@ -15,29 +15,29 @@ enum-known-header : tie.Need-enum-known-header
 enum-known-header c = search rules
 
 sub-t7 : tie.Need-overflow-sub-t7
-unfolding readAnswer
+unfolding read_answer
 sub-t7 c =
     let s = c.before.before.before.before.before.args.lsdu.now in
-    let read = sym (ap readAnswer c.before.header.given.1) ∙ c.before.before.before.read.ensures.0 in
+    let read = sym (ap read_answer c.before.header.given.1) ∙ c.before.before.before.read.ensures.0 in
     fields_in s _ _ read
 
 enum_told : tie.Need-enum-told
 enum_told c = search rules
 
 returns : tie.Need-returns
-unfolding readAnswer headedBy
+unfolding read_answer headed_by
 returns c =
     let s = c.before.before.before.before.before.args.lsdu.now in
-    let read = sym (ap readAnswer c.before.header.given.1) ∙ c.before.before.before.read.ensures.0 in
-    let fields = fields-are s _ _ read in
+    let read = sym (ap read_answer c.before.header.given.1) ∙ c.before.before.before.read.ensures.0 in
+    let fields = fields_are s _ _ read in
     λ i. record { number = (fields i).number; payload = (fields i).octets }
 
 returns-2 : tie.Need-returns-2
-unfolding readAnswer headedBy
+unfolding read_answer headed_by
 returns-2 c =
     let s = c.before.before.before.before.args.lsdu.now in
-    let read = sym (ap readAnswer c.enum_told.given.1) ∙ c.before.before.read.ensures.0 in
-    let fields = fields-none s _ read in
+    let read = sym (ap read_answer c.enum_told.given.1) ∙ c.before.before.read.ensures.0 in
+    let fields = fields_none s _ read in
     λ i. record { number = (fields i).number; payload = (fields i).octets }
 
 pub header-of-spec : {M : Type 1} → statement M

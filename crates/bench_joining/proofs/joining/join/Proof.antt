@@ -19,7 +19,7 @@ same-length-2 c = search rules
 returns : tie.Need-returns
 returns c =
     let c6 = c.before.before.before.before.before.before in
-    record { call = c6.fragment.result; gives = c6.fragment.ensures.1; table_is = refl; columns-are = c.shown.ensures }
+    record { call = c6.fragment.result; gives = c6.fragment.ensures.1; table_is = refl; columns_are = c.shown.ensures }
 
 pub join-spec : {M : Type 1} → statement M
 join-spec =

@@ -1,6 +1,6 @@
 -- `bench_joining::joining::take_line` meets its contract: a line is read and joined, or it goes no further. Assumes nothing.
 use mathlib.Core.Path.{refl}
-use Rattle.bench_joining.proofs.LineLaws.{line-joined, line_refused}
+use Rattle.bench_joining.proofs.LineLaws.{line_joined, line_refused}
 use borrow.Author.Rules.{rules}
 use Rattle.bench_joining.proofs.joining.take_line.Statement.{statement}
 use Rattle.bench_joining.proofs.joining.take_line.Tie as tie
@@ -37,7 +37,7 @@ returns c =
     let c7 = c.before.before.before.before.before.before.before in
     let c10 = c7.before.before.before in
     let c14 = c10.before.before.before.before in
-    line-joined _ _ _ _ _ _ _ _ _ _ c14.read-line.ensures.0 _ _ _ _ c10.lid.given.1 c7.front.ensures c.before.before.before.before.join.ensures
+    line_joined _ _ _ _ _ _ _ _ _ _ c14.read-line.ensures.0 _ _ _ _ c10.lid.given.1 c7.front.ensures c.before.before.before.before.join.ensures
 
 same-length-4 : tie.Need-same-length-4
 same-length-4 c = search rules

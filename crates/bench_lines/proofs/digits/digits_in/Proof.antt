@@ -3,13 +3,13 @@ use native.Mathlib.Omega.{arith}
 use Prim.Native.Nat.{◌≤◌, ◌-◌}
 use mathlib.Core.Path.{◌≡◌, refl}
 use lib.Seq.{slice}
-use Rattle.bench_lines.specs.Numerals.{allDigits}
-use Rattle.bench_lines.proofs.Spelling.{DigitsLeft, digits-stop, digits_more, digits-end}
+use Rattle.bench_lines.specs.Numerals.{all_digits}
+use Rattle.bench_lines.proofs.Spelling.{DigitsLeft, digits_stop, digits_more, digits_end}
 use Rattle.bench_lines.proofs.digits.digits_in.Statement.{statement}
 use Rattle.bench_lines.proofs.digits.digits_in.Tie as tie
 
 abbrev invariant-loop : tie.invariant-loop
-invariant-loop s from to base i₀ i = (i ≤ to) × (allDigits base (slice from to s) ≡ DigitsLeft base s i to)
+invariant-loop s from to base i₀ i = (i ≤ to) × (all_digits base (slice from to s) ≡ DigitsLeft base s i to)
 
 abbrev decreases-loop : tie.decreases-loop
 decreases-loop s from to base i₀ i = to - i
@@ -25,7 +25,7 @@ digit-value-requires : tie.Need-digit-value-requires invariant-loop decreases-lo
 digit-value-requires c κs = tt
 
 returns : tie.Need-returns invariant-loop decreases-loop
-returns c = digits-stop _ _ _ _ c.before.digit_value.ensures.0 (omega arith) (omega arith) c.before.before.before.before.loop.invariant.1 (omega arith)
+returns c = digits_stop _ _ _ _ c.before.digit_value.ensures.0 (omega arith) (omega arith) c.before.before.before.before.loop.invariant.1 (omega arith)
 
 add-i : tie.Need-overflow-add-i invariant-loop decreases-loop
 add-i c = omega arith
@@ -37,7 +37,7 @@ loop-again : tie.Need-loop-preserved invariant-loop decreases-loop
 loop-again c = (omega arith, digits_more _ _ _ _ c.before.digit_value.ensures.0 (omega arith) (omega arith) c.before.before.before.before.loop.invariant.1 (omega arith))
 
 returns-2 : tie.Need-returns-2 invariant-loop decreases-loop
-returns-2 c = digits-end _ _ _ _ c.before.loop.invariant.1 (omega arith)
+returns-2 c = digits_end _ _ _ _ c.before.loop.invariant.1 (omega arith)
 
 pub digits-in-spec : {M : Type 1} → statement M
 digits-in-spec =

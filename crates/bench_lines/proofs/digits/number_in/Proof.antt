@@ -4,7 +4,7 @@ use Prim.Native.Nat.{◌≤◌, ◌<◌, ◌-◌}
 use mathlib.Core.Path.{◌≡◌, refl}
 use lib.Seq.{slice}
 use Rattle.bench_lines.specs.Numerals.{spelled}
-use Rattle.bench_lines.proofs.Spelling.{NumberLeft, number_more, number-over, number-end, product_small}
+use Rattle.bench_lines.proofs.Spelling.{NumberLeft, number_more, number_over, number_end, product_small}
 use Rattle.bench_lines.proofs.digits.number_in.Statement.{statement}
 use Rattle.bench_lines.proofs.digits.number_in.Tie as tie
 
@@ -31,7 +31,7 @@ add-v : tie.Need-overflow-add-v invariant-loop decreases-loop
 add-v c = let d = c.before.before.before in omega (arith, product_small d.loop.invariant.1 d.before.before.requires.3)
 
 returns : tie.Need-returns invariant-loop decreases-loop
-returns c = let d = c.before.before.before.before in number-over _ _ _ _ _ (number_more _ _ _ _ c.before.digit_value.ensures.0 (omega arith) (omega arith) _ d.loop.invariant.2) (omega arith) (omega arith)
+returns c = let d = c.before.before.before.before in number_over _ _ _ _ _ (number_more _ _ _ _ c.before.digit_value.ensures.0 (omega arith) (omega arith) _ d.loop.invariant.2) (omega arith) (omega arith)
 
 add-i : tie.Need-overflow-add-i invariant-loop decreases-loop
 add-i c = omega arith
@@ -43,7 +43,7 @@ loop-again : tie.Need-loop-preserved invariant-loop decreases-loop
 loop-again c = let d = c.before.before.before.before in (omega arith, omega arith, number_more _ _ _ _ c.before.digit_value.ensures.0 (omega arith) (omega arith) _ d.loop.invariant.2)
 
 returns-2 : tie.Need-returns-2 invariant-loop decreases-loop
-returns-2 c = number-end _ _ _ _ _ c.before.loop.invariant.2 (omega arith) (omega arith)
+returns-2 c = number_end _ _ _ _ _ c.before.loop.invariant.2 (omega arith) (omega arith)
 
 pub number-in-spec : {M : Type 1} → statement M
 number-in-spec =

@@ -3,7 +3,7 @@ use native.Mathlib.Omega.{arith}
 use Prim.Native.Nat.{◌≤◌}
 use mathlib.Core.Path.{◌≡◌, refl, ◌∙◌}
 use lib.ListN.{length, length-set}
-use Rattle.bench_lines.proofs.Decimal.{Left, left_less, left-whole}
+use Rattle.bench_lines.proofs.Decimal.{Left, left_less, left_whole}
 use Rattle.bench_lines.proofs.digits.put_digits.Statement.{statement}
 use Rattle.bench_lines.proofs.digits.put_digits.Tie as tie
 
@@ -41,7 +41,7 @@ same_length : tie.Need-same-length invariant-loop decreases-loop
 same_length c = c.before.loop.invariant.1
 
 returns : tie.Need-returns invariant-loop decreases-loop
-returns c = left-whole _ _ _ _ _ _ _ c.before.loop.invariant.2 (omega arith)
+returns c = left_whole _ _ _ _ _ _ _ c.before.loop.invariant.2 (omega arith)
 
 pub put-digits-spec : {M : Type 1} → statement M
 put-digits-spec =

@@ -3,14 +3,14 @@ use native.Mathlib.Omega.{arith}
 use Prim.Native.Nat.{◌≤◌, ◌+◌, ◌-◌, ◌*◌}
 use mathlib.Core.Path.{◌≡◌, refl}
 use lib.ListN.{length, length-set, drop}
-use Rattle.bench_lines.specs.Numerals.{octetsOf}
+use Rattle.bench_lines.specs.Numerals.{octets_of}
 use Rattle.bench_lines.specs.Inside.{copied}
-use Rattle.bench_lines.proofs.Spelling.{copied_none, octets-more, octets-whole, digit-behind}
+use Rattle.bench_lines.proofs.Spelling.{copied_none, octets_more, octets_whole, digit_behind}
 use Rattle.bench_lines.proofs.digits.put_octets.Statement.{statement}
 use Rattle.bench_lines.proofs.digits.put_octets.Tie as tie
 
 abbrev invariant-loop : tie.invariant-loop
-invariant-loop s from n out₀ k₀ out k = (k ≤ n) × (length out ≡ length out₀) × (out ≡ copied out₀ 0 (octetsOf (drop from s)) k)
+invariant-loop s from n out₀ k₀ out k = (k ≤ n) × (length out ≡ length out₀) × (out ≡ copied out₀ 0 (octets_of (drop from s)) k)
 
 abbrev decreases-loop : tie.decreases-loop
 decreases-loop s from n out₀ k₀ out k = n - k
@@ -43,7 +43,7 @@ octet-of-requires : tie.Need-octet-of-requires invariant-loop decreases-loop
 octet-of-requires c κs =
     let d = c.before.before.before.before.before.before in
     let at = d.args.from + 2 * c.before.before.before.loop.k in
-    (digit-behind d.args.s.now d.args.from at d.requires.2 (omega arith) (omega arith), digit-behind d.args.s.now d.args.from (at + 1) d.requires.2 (omega arith) (omega arith))
+    (digit_behind d.args.s.now d.args.from at d.requires.2 (omega arith) (omega arith), digit_behind d.args.s.now d.args.from (at + 1) d.requires.2 (omega arith) (omega arith))
 
 slice-write-out : tie.Need-slice-write-out invariant-loop decreases-loop
 slice-write-out c = omega arith
@@ -59,13 +59,13 @@ loop-again c =
     let c4 = c.before.before.before.before in
     let c7 = c4.before.before.before in
     let l = c4.loop.invariant in
-    (omega arith, simp length-set l.1, octets-more _ _ _ _ _ c7.requires.0 l.2 c.octet-of.ensures (omega arith) (omega arith))
+    (omega arith, simp length-set l.1, octets_more _ _ _ _ _ c7.requires.0 l.2 c.octet-of.ensures (omega arith) (omega arith))
 
 same_length : tie.Need-same-length invariant-loop decreases-loop
 same_length c = c.before.loop.invariant.1
 
 returns : tie.Need-returns invariant-loop decreases-loop
-returns c = let d = c.before.before.before.before in octets-whole _ _ _ _ d.args.n d.requires.0 c.before.loop.invariant.2 (omega arith)
+returns c = let d = c.before.before.before.before in octets_whole _ _ _ _ d.args.n d.requires.0 c.before.loop.invariant.2 (omega arith)
 
 pub put-octets-spec : {M : Type 1} → statement M
 put-octets-spec =

@@ -1,7 +1,7 @@
 -- `bench_lines::line::has_form` meets its contract: its tests are those of the form, in their order. Assumes nothing.
 use native.Mathlib.Omega.{arith}
 use borrow.Author.Rules.{rules}
-use Rattle.bench_lines.proofs.Form.{too_long, no-lid, cut_short, no-lid-digit, no-tick, no-tick-digit, tick-too-large, odd, last_digits}
+use Rattle.bench_lines.proofs.Form.{too_long, no_lid, cut_short, no_lid_digit, no_tick, no_tick_digit, tick_too_large, odd, last_digits}
 use Rattle.bench_lines.proofs.line.has_form.Statement.{statement}
 use Rattle.bench_lines.proofs.line.has_form.Tie as tie
 
@@ -12,7 +12,7 @@ find-requires : tie.Need-find-requires
 find-requires c κs = search rules
 
 returns-2 : tie.Need-returns-2
-returns-2 c = no-lid _ (omega arith) c.before.find.ensures c.if2.true
+returns-2 c = no_lid _ (omega arith) c.before.find.ensures c.if2.true
 
 find-requires-2 : tie.Need-find-requires-2
 find-requires-2 c κs = search rules
@@ -26,14 +26,14 @@ digits-in-requires c κs = search rules
 returns-4 : tie.Need-returns-4
 returns-4 c =
     let e = c.before.before in
-    no-lid-digit _ (omega arith) e.before.before.before.find.ensures e.before.before.if2.false e.before.find2.ensures (omega arith)
+    no_lid_digit _ (omega arith) e.before.before.before.find.ensures e.before.before.if2.false e.before.find2.ensures (omega arith)
     c.before.digits_in.ensures c.if4.true
 
 returns-5 : tie.Need-returns-5
 returns-5 c =
     let c2 = c.before.before in
     let e = c2.before in
-    no-tick _ (omega arith) e.before.before.before.find.ensures e.before.before.if2.false e.before.find2.ensures (omega arith)
+    no_tick _ (omega arith) e.before.before.before.find.ensures e.before.before.if2.false e.before.find2.ensures (omega arith)
     c2.digits_in.ensures c.before.if4.false c.if5.true
 
 digits-in-requires-2 : tie.Need-digits-in-requires-2
@@ -45,7 +45,7 @@ returns-6 c =
     let c3 = c2.before in
     let c4 = c3.before in
     let e = c4.before in
-    no-tick-digit _ (omega arith) e.before.before.before.find.ensures e.before.before.if2.false e.before.find2.ensures (omega arith)
+    no_tick_digit _ (omega arith) e.before.before.before.find.ensures e.before.before.if2.false e.before.find2.ensures (omega arith)
     c4.digits_in.ensures c3.if4.false c2.if5.false c.before.digits-in2.ensures c.if6.true
 
 number-in-requires : tie.Need-number-in-requires
@@ -59,7 +59,7 @@ returns-7 c =
     let c5 = c4.before in
     let c6 = c5.before in
     let e = c6.before in
-    tick-too-large _ (omega arith) e.before.before.before.find.ensures e.before.before.if2.false e.before.find2.ensures
+    tick_too_large _ (omega arith) e.before.before.before.find.ensures e.before.before.if2.false e.before.find2.ensures
     (omega arith) c6.digits_in.ensures c5.if4.false c4.if5.false c3.digits-in2.ensures c2.if6.false c.before.number_in.ensures
     (omega arith)
 

@@ -2,8 +2,8 @@
 -- Assumes nothing.
 use native.Mathlib.Omega.{arith}
 use borrow.Author.Rules.{rules}
-use Rattle.bench_lines.proofs.Reading.{not-a-line, facts, whole-octets, hex-behind, lid-is, tick_is, buffer-too-short, whole-line}
-use Rattle.bench_lines.proofs.RoundTrip.{reading-printed}
+use Rattle.bench_lines.proofs.Reading.{not_a_line, facts, whole_octets, hex_behind, lid_is, tick_is, buffer_too_short, whole_line_law}
+use Rattle.bench_lines.proofs.RoundTrip.{reading_printed}
 use Rattle.bench_lines.proofs.line.read_line.Statement.{statement}
 use Rattle.bench_lines.proofs.line.read_line.Tie as tie
 
@@ -11,7 +11,7 @@ has-form-requires : tie.Need-has-form-requires
 has-form-requires c κs = search rules
 
 returns : tie.Need-returns
-returns c = (not-a-line _ _ _ c.before.has-form.ensures c.if1.true, reading-printed)
+returns c = (not_a_line _ _ _ c.before.has-form.ensures c.if1.true, reading_printed)
 
 find-requires : tie.Need-find-requires
 find-requires c κs = search rules
@@ -24,7 +24,7 @@ sub-octets-2 c = omega (arith, (facts _ c.before.before.has-form.ensures c.befor
 
 returns-2 : tie.Need-returns-2
 returns-2 c =
-    (buffer-too-short _ c.before.before.before.has-form.ensures c.before.before.if1.false c.before.find.ensures _ _ (omega arith), reading-printed)
+    (buffer_too_short _ c.before.before.before.has-form.ensures c.before.before.if1.false c.before.find.ensures _ _ (omega arith), reading_printed)
 
 number-in-requires : tie.Need-number-in-requires
 number-in-requires c κs = omega (arith, (facts _ c.before.before.before.has-form.ensures c.before.before.if1.false c.before.find.ensures).inside)
@@ -34,7 +34,7 @@ cast-lid c =
     let c2 = c.before.before in
     let c3 = c2.before in
     let c4 = c3.before in
-    record { fits = (lid-is _ c4.has-form.ensures c3.if1.false c2.find.ensures c.number_in.ensures).1 }
+    record { fits = (lid_is _ c4.has-form.ensures c3.if1.false c2.find.ensures c.number_in.ensures).1 }
 
 number-in-requires-2 : tie.Need-number-in-requires-2
 number-in-requires-2 c κs =
@@ -62,9 +62,9 @@ put-octets-requires c κs =
     let c4 = c.before.before.before.before in
     let c5 = c4.before in
     let c6 = c5.before in (
-      whole-octets _ c6.has-form.ensures c5.if1.false c4.find.ensures,
+      whole_octets _ c6.has-form.ensures c5.if1.false c4.find.ensures,
       omega arith,
-      hex-behind _ c6.has-form.ensures c5.if1.false c4.find.ensures,
+      hex_behind _ c6.has-form.ensures c5.if1.false c4.find.ensures,
     )
 
 same_length : tie.Need-same-length
@@ -78,9 +78,9 @@ returns-3 c =
     let c7 = c5.before.before in
     let c8 = c7.before in
     let c9 = c8.before in (
-      whole-line _ c9.has-form.ensures c8.if1.false c7.find.ensures _ _ c5.number_in.ensures c4.number-in2.ensures (omega arith)
-          c2.put-octets.ensures,
-      reading-printed,
+      whole_line_law _ c9.has-form.ensures c8.if1.false c7.find.ensures _ _ c5.number_in.ensures c4.number-in2.ensures (omega arith)
+          c2.put_octets_law.ensures,
+      reading_printed,
     )
 
 pub read-line-spec : {M : Type 1} → statement M

@@ -4,7 +4,7 @@ use Prim.Native.Nat.{◌≤◌, ◌-◌}
 use mathlib.Core.Path.{◌≡◌, refl}
 use lib.ListN.{length, length-set}
 use Rattle.bench_lines.specs.Inside.{copied}
-use Rattle.bench_lines.proofs.Spelling.{copied_none, copied_more, copied-whole}
+use Rattle.bench_lines.proofs.Spelling.{copied_none, copied_more, copied_whole}
 use Rattle.bench_lines.proofs.splitting.copy.Statement.{statement}
 use Rattle.bench_lines.proofs.splitting.copy.Tie as tie
 
@@ -39,7 +39,7 @@ same_length : tie.Need-same-length invariant-loop decreases-loop
 same_length c = c.before.loop.invariant.1
 
 returns : tie.Need-returns invariant-loop decreases-loop
-returns c = copied-whole _ _ _ c.before.loop.invariant.2 (omega arith)
+returns c = copied_whole _ _ _ c.before.loop.invariant.2 (omega arith)
 
 pub copy_spec : {M : Type 1} → statement M
 copy_spec =

@@ -3,7 +3,7 @@ use native.Mathlib.Omega.{arith}
 use borrow.Author.Rules.{rules}
 use mathlib.Core.Path.{ap}
 use lib.ListN.{length}
-use Rattle.bench_lines.proofs.Appending.{held-text, whole-text, refused-octets}
+use Rattle.bench_lines.proofs.Appending.{held_text, whole_text, refused_octets}
 use Rattle.bench_lines.proofs.text.answer_octets.Statement.{statement}
 use Rattle.bench_lines.proofs.text.answer_octets.Tie as tie
 
@@ -26,13 +26,13 @@ add-result : tie.Need-overflow-add-result
 add-result c = search rules
 
 returns : tie.Need-returns
-returns c = (ap length (held-text c.enum_told.given.1), omega arith)
+returns c = (ap length (held_text c.enum_told.given.1), omega arith)
 
 returns-2 : tie.Need-returns-2
-returns-2 c = (ap length (whole-text c.enum-told2.given.1), omega arith)
+returns-2 c = (ap length (whole_text c.enum-told2.given.1), omega arith)
 
 returns-3 : tie.Need-returns-3
-returns-3 c = refused-octets c.before.before.answer.given.1 c.width_of_lem.ensures.0 c.width_of_lem.ensures.1
+returns-3 c = refused_octets c.before.before.answer.given.1 c.width_of_lem.ensures.0 c.width_of_lem.ensures.1
 
 pub answer-octets-spec : {M : Type 1} → statement M
 answer-octets-spec =

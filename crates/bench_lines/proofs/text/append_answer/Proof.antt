@@ -1,8 +1,8 @@
 -- `bench_lines::text::append_answer` meets its contract: it is asked for as many octets as its fields have, one behind the other. Assumes nothing.
 use native.Mathlib.Omega.{arith}
 use borrow.Author.Rules.{rules}
-use Rattle.bench_lines.specs.Text.{answerLineText}
-use Rattle.bench_lines.proofs.Appending.{length-number, length-line, room-found, no_room, four-appended}
+use Rattle.bench_lines.specs.Text.{answer_line_text}
+use Rattle.bench_lines.proofs.Appending.{length_number, length_line, room_found, no_room, four_appended}
 use Rattle.bench_lines.proofs.text.append_answer.Statement.{statement}
 use Rattle.bench_lines.proofs.text.append_answer.Tie as tie
 
@@ -41,7 +41,7 @@ returns c =
     let c5 = c4.before in
     let d = c5.before.before in
     no_room _ _ _ c.before.has_room.ensures
-    (length-line d.args.line d.args.answer d.args.octets d.args.dropped c5.width_of_lem.ensures.0 c4.answer-octets.ensures.0 c3.width-of2.ensures.0 c2.width-of3.ensures.0)
+    (length_line d.args.line d.args.answer d.args.octets d.args.dropped c5.width_of_lem.ensures.0 c4.answer-octets.ensures.0 c3.width-of2.ensures.0 c2.width-of3.ensures.0)
     c.if1.true
 
 put-number-requires : tie.Need-put-number-requires
@@ -54,10 +54,10 @@ put-number-requires c κs =
     let d = c6.before.before in
     omega (
       arith,
-      room-found _ _ _ c2.has_room.ensures c.before.if1.false,
-      length-number d.args.line 32,
-      length-number d.args.octets 32,
-      length-number d.args.dropped 10,
+      room_found _ _ _ c2.has_room.ensures c.before.if1.false,
+      length_number d.args.line 32,
+      length_number d.args.octets 32,
+      length_number d.args.dropped 10,
       c6.width_of_lem.ensures.0,
       c5.answer-octets.ensures.0,
       c4.width-of2.ensures.0,
@@ -76,10 +76,10 @@ put-answer-requires c κs =
     let d = c10.before.before in
     omega (
       arith,
-      room-found _ _ _ c6.has_room.ensures c5.if1.false,
-      length-number d.args.line 32,
-      length-number d.args.octets 32,
-      length-number d.args.dropped 10,
+      room_found _ _ _ c6.has_room.ensures c5.if1.false,
+      length_number d.args.line 32,
+      length_number d.args.octets 32,
+      length_number d.args.dropped 10,
       c3.put-number.ensures.place,
       c10.width_of_lem.ensures.0,
       c9.answer-octets.ensures.0,
@@ -100,10 +100,10 @@ put-number-requires-2 c κs =
     let d = c14.before.before in
     omega (
       arith,
-      room-found _ _ _ c10.has_room.ensures c9.if1.false,
-      length-number d.args.line 32,
-      length-number d.args.octets 32,
-      length-number d.args.dropped 10,
+      room_found _ _ _ c10.has_room.ensures c9.if1.false,
+      length_number d.args.line 32,
+      length_number d.args.octets 32,
+      length_number d.args.dropped 10,
       c7.put-number.ensures.place,
       c3.put-answer.ensures.place,
       c14.width_of_lem.ensures.0,
@@ -126,10 +126,10 @@ put-number-requires-3 c κs =
     let d = c18.before.before in
     omega (
       arith,
-      room-found _ _ _ c14.has_room.ensures c13.if1.false,
-      length-number d.args.line 32,
-      length-number d.args.octets 32,
-      length-number d.args.dropped 10,
+      room_found _ _ _ c14.has_room.ensures c13.if1.false,
+      length_number d.args.line 32,
+      length_number d.args.octets 32,
+      length_number d.args.dropped 10,
       c11.put-number.ensures.place,
       c7.put-answer.ensures.place,
       c3.put-number2.ensures.place,
@@ -143,7 +143,7 @@ same_length : tie.Need-same-length
 same_length c = search rules
 
 returns-2 : tie.Need-returns-2
-unfolding answerLineText
+unfolding answer_line_text
 returns-2 c =
     let c2 = c.before.before in
     let c6 = c2.before.before.before.before in
@@ -156,8 +156,8 @@ returns-2 c =
     let c20 = c19.before in
     let c21 = c20.before in
     let d = c21.before.before in
-    four-appended _ _ _ _ _ _ c17.has_room.ensures
-    (length-line d.args.line d.args.answer d.args.octets d.args.dropped c21.width_of_lem.ensures.0 c20.answer-octets.ensures.0 c19.width-of2.ensures.0 c18.width-of3.ensures.0)
+    four_appended _ _ _ _ _ _ c17.has_room.ensures
+    (length_line d.args.line d.args.answer d.args.octets d.args.dropped c21.width_of_lem.ensures.0 c20.answer-octets.ensures.0 c19.width-of2.ensures.0 c18.width-of3.ensures.0)
     c16.if1.false c14.put-number.ensures c10.put-answer.ensures c6.put-number2.ensures c2.put-number3.ensures
 
 pub append-answer-spec : {M : Type 1} → statement M

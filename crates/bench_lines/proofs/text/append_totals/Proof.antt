@@ -1,8 +1,8 @@
 -- `bench_lines::text::append_totals` meets its contract: it is asked for as many octets as its fields have, one behind the other. Assumes nothing.
 use native.Mathlib.Omega.{arith}
 use borrow.Author.Rules.{rules}
-use Rattle.bench_lines.specs.Text.{acceptedWord, deliveredWord, droppedWord, heldWord, totalsText}
-use Rattle.bench_lines.proofs.Appending.{length-named, length-totals, room-found, no_room, four-appended}
+use Rattle.bench_lines.specs.Text.{accepted_word, delivered_word, dropped_word, held_word, totals_text}
+use Rattle.bench_lines.proofs.Appending.{length_named, length_totals, room_found, no_room, four_appended}
 use Rattle.bench_lines.proofs.text.append_totals.Statement.{statement}
 use Rattle.bench_lines.proofs.text.append_totals.Tie as tie
 
@@ -41,7 +41,7 @@ returns c =
     let c5 = c4.before in
     let d = c5.before.before in
     no_room _ _ _ c.before.has_room.ensures
-    (length-totals d.args.totals c5.width_of_lem.ensures.0 c4.width-of2.ensures.0 c3.width-of3.ensures.0 c2.width-of4.ensures.0)
+    (length_totals d.args.totals c5.width_of_lem.ensures.0 c4.width-of2.ensures.0 c3.width-of3.ensures.0 c2.width-of4.ensures.0)
     c.if1.true
 
 slice-aggregate-put-named : tie.Need-slice-aggregate-put-named
@@ -58,8 +58,8 @@ put-named-requires c κs =
     let d = c7.before.before in
     omega (
       arith,
-      room-found _ _ _ c3.has_room.ensures c2.if1.false,
-      length-named acceptedWord d.args.totals.accepted 32,
+      room_found _ _ _ c3.has_room.ensures c2.if1.false,
+      length_named accepted_word d.args.totals.accepted 32,
       c7.width_of_lem.ensures.0,
       c6.width-of2.ensures.0,
       c5.width-of3.ensures.0,
@@ -81,9 +81,9 @@ put-named-requires-2 c κs =
     let d = c12.before.before in
     omega (
       arith,
-      room-found _ _ _ c8.has_room.ensures c7.if1.false,
-      length-named acceptedWord d.args.totals.accepted 32,
-      length-named deliveredWord d.args.totals.delivered 32,
+      room_found _ _ _ c8.has_room.ensures c7.if1.false,
+      length_named accepted_word d.args.totals.accepted 32,
+      length_named delivered_word d.args.totals.delivered 32,
       c4.put-named.ensures.place,
       c12.width_of_lem.ensures.0,
       c11.width-of2.ensures.0,
@@ -107,10 +107,10 @@ put-named-requires-3 c κs =
     let d = c17.before.before in
     omega (
       arith,
-      room-found _ _ _ c13.has_room.ensures c12.if1.false,
-      length-named acceptedWord d.args.totals.accepted 32,
-      length-named deliveredWord d.args.totals.delivered 32,
-      length-named droppedWord d.args.totals.dropped 32,
+      room_found _ _ _ c13.has_room.ensures c12.if1.false,
+      length_named accepted_word d.args.totals.accepted 32,
+      length_named delivered_word d.args.totals.delivered 32,
+      length_named dropped_word d.args.totals.dropped 32,
       c9.put-named.ensures.place,
       c4.put-named2.ensures.place,
       c17.width_of_lem.ensures.0,
@@ -136,11 +136,11 @@ put-named-requires-4 c κs =
     let d = c22.before.before in
     omega (
       arith,
-      room-found _ _ _ c18.has_room.ensures c17.if1.false,
-      length-named acceptedWord d.args.totals.accepted 32,
-      length-named deliveredWord d.args.totals.delivered 32,
-      length-named droppedWord d.args.totals.dropped 32,
-      length-named heldWord d.args.totals.held 10,
+      room_found _ _ _ c18.has_room.ensures c17.if1.false,
+      length_named accepted_word d.args.totals.accepted 32,
+      length_named delivered_word d.args.totals.delivered 32,
+      length_named dropped_word d.args.totals.dropped 32,
+      length_named held_word d.args.totals.held 10,
       c14.put-named.ensures.place,
       c9.put-named2.ensures.place,
       c4.put-named3.ensures.place,
@@ -154,7 +154,7 @@ same_length : tie.Need-same-length
 same_length c = search rules
 
 returns-2 : tie.Need-returns-2
-unfolding totalsText
+unfolding totals_text
 returns-2 c =
     let c2 = c.before.before in
     let c7 = c2.before.before.before.before.before in
@@ -167,8 +167,8 @@ returns-2 c =
     let c24 = c23.before in
     let c25 = c24.before in
     let d = c25.before.before in
-    four-appended _ _ _ _ _ _ c21.has_room.ensures
-    (length-totals d.args.totals c25.width_of_lem.ensures.0 c24.width-of2.ensures.0 c23.width-of3.ensures.0 c22.width-of4.ensures.0)
+    four_appended _ _ _ _ _ _ c21.has_room.ensures
+    (length_totals d.args.totals c25.width_of_lem.ensures.0 c24.width-of2.ensures.0 c23.width-of3.ensures.0 c22.width-of4.ensures.0)
     c20.if1.false c17.put-named.ensures c12.put-named2.ensures c7.put-named3.ensures c2.put-named4.ensures
 
 pub append-totals-spec : {M : Type 1} → statement M

@@ -3,7 +3,7 @@ use native.Mathlib.Omega.{arith}
 use borrow.Author.Rules.{rules}
 use mathlib.Core.Path.{ap}
 use lib.ListN.{length}
-use Rattle.bench_lines.proofs.Appending.{held-text, whole-text, refused-text, placed-as}
+use Rattle.bench_lines.proofs.Appending.{held_text, whole_text, refused_text, placed_as}
 use Rattle.bench_lines.proofs.text.put_answer.Statement.{statement}
 use Rattle.bench_lines.proofs.text.put_answer.Tie as tie
 
@@ -14,7 +14,7 @@ slice-aggregate-put-word : tie.Need-slice-aggregate-put-word
 slice-aggregate-put-word c = search rules
 
 put-word-requires : tie.Need-put-word-requires
-put-word-requires c κs = omega (arith, ap length (held-text c.before.before.enum_told.given.1))
+put-word-requires c κs = omega (arith, ap length (held_text c.before.before.enum_told.given.1))
 
 enum-told-2 : tie.Need-enum-told-2
 enum-told-2 c = search rules
@@ -23,7 +23,7 @@ slice-aggregate-put-word-2 : tie.Need-slice-aggregate-put-word-2
 slice-aggregate-put-word-2 c = search rules
 
 put-word-requires-2 : tie.Need-put-word-requires-2
-put-word-requires-2 c κs = omega (arith, ap length (whole-text c.before.before.enum-told2.given.1))
+put-word-requires-2 c κs = omega (arith, ap length (whole_text c.before.before.enum-told2.given.1))
 
 enum-known-answer : tie.Need-enum-known-answer
 enum-known-answer c = search rules
@@ -35,25 +35,25 @@ cast-put-named : tie.Need-overflow-cast-put-named
 cast-put-named c = search rules
 
 put-named-requires : tie.Need-put-named-requires
-put-named-requires c κs = omega (arith, ap length (refused-text c.before.before.before.answer.given.1))
+put-named-requires c κs = omega (arith, ap length (refused_text c.before.before.before.answer.given.1))
 
 same_length : tie.Need-same-length
 same_length c = search rules
 
 returns : tie.Need-returns
-returns c = placed-as (held-text c.before.before.before.before.before.enum_told.given.1) c.before.before.put_word.ensures
+returns c = placed_as (held_text c.before.before.before.before.before.enum_told.given.1) c.before.before.put_word.ensures
 
 same-length-2 : tie.Need-same-length-2
 same-length-2 c = search rules
 
 returns-2 : tie.Need-returns-2
-returns-2 c = placed-as (whole-text c.before.before.before.before.before.enum-told2.given.1) c.before.before.put-word2.ensures
+returns-2 c = placed_as (whole_text c.before.before.before.before.before.enum-told2.given.1) c.before.before.put-word2.ensures
 
 same-length-3 : tie.Need-same-length-3
 same-length-3 c = search rules
 
 returns-3 : tie.Need-returns-3
-returns-3 c = placed-as (refused-text c.before.before.before.before.before.before.answer.given.1) c.before.before.put-named.ensures
+returns-3 c = placed_as (refused_text c.before.before.before.before.before.before.answer.given.1) c.before.before.put-named.ensures
 
 pub put-answer-spec : {M : Type 1} → statement M
 put-answer-spec =

@@ -1,7 +1,7 @@
 -- `bench_lines::text::put_number` meets its contract: the digits, and one octet behind them. Assumes nothing.
 use native.Mathlib.Omega.{arith}
 use borrow.Author.Rules.{rules}
-use Rattle.bench_lines.proofs.Appending.{length-number, number-placed}
+use Rattle.bench_lines.proofs.Appending.{length_number, number_placed}
 use Rattle.bench_lines.proofs.text.put_number.Statement.{statement}
 use Rattle.bench_lines.proofs.text.put_number.Tie as tie
 
@@ -9,13 +9,13 @@ width-of-requires : tie.Need-width-of-requires
 width-of-requires c κs = search rules
 
 put-digits-requires : tie.Need-put-digits-requires
-put-digits-requires c κs = let d = c.before.before.before in omega (arith, length-number d.args.n d.args.end)
+put-digits-requires c κs = let d = c.before.before.before in omega (arith, length_number d.args.n d.args.end)
 
 add-out : tie.Need-overflow-add-out
 add-out c = search rules
 
 slice-write-out : tie.Need-slice-write-out
-slice-write-out c = let d = c.before.before.before.before.before.before in omega (arith, length-number d.args.n d.args.end)
+slice-write-out c = let d = c.before.before.before.before.before.before in omega (arith, length_number d.args.n d.args.end)
 
 add-result : tie.Need-overflow-add-result
 add-result c = search rules
@@ -31,7 +31,7 @@ returns c =
     let c2 = c.before.before in
     let c4 = c2.before.before in
     let d = c4.before.before in
-    number-placed _ _ _ _ c4.width_of_lem.ensures.0 c2.put-digits.ensures (omega (arith, length-number d.args.n d.args.end))
+    number_placed _ _ _ _ c4.width_of_lem.ensures.0 c2.put-digits.ensures (omega (arith, length_number d.args.n d.args.end))
 
 pub put-number-spec : {M : Type 1} → statement M
 put-number-spec =

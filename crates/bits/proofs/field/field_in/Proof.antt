@@ -1,5 +1,5 @@
 -- `bits::field::field_in` meets its contract: the field is cut out of its window. Assumes nothing.
-use Rattle.bits.proofs.Window.{field-window}
+use Rattle.bits.proofs.Window.{field_window}
 use borrow.Author.Rules.{rules}
 use Rattle.bits.proofs.field.field_in.Statement.{statement}
 use Rattle.bits.proofs.field.field_in.Tie as tie
@@ -29,7 +29,7 @@ low-requires : tie.Need-low-requires
 low-requires c κs = search rules
 
 returns : tie.Need-returns
-returns c = field-window _ _ _ _ c.before.window.ensures.0 c.low.ensures
+returns c = field_window _ _ _ _ c.before.window.ensures.0 c.low.ensures
 
 pub field-in-spec : {M : Type 1} → statement M
 field-in-spec =

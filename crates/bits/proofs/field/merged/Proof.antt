@@ -2,7 +2,7 @@
 use native.Mathlib.Omega.{arith}
 use Prim.Native.Nat.{◌+◌}
 use Rattle.bits.specs.Window.{merge}
-use Rattle.bits.proofs.Window.{mod-le, shifted}
+use Rattle.bits.proofs.Window.{mod_le, shifted}
 use borrow.Author.Rules.{rules}
 use Rattle.bits.proofs.field.merged.Statement.{statement}
 use Rattle.bits.proofs.field.merged.Tie as tie
@@ -14,7 +14,7 @@ low-requires : tie.Need-low-requires
 low-requires c κs = search rules
 
 sub-result : tie.Need-overflow-sub-result
-sub-result c = omega (arith, mod-le c.before.args.whole (c.before.args.width + c.before.args.over))
+sub-result c = omega (arith, mod_le c.before.args.whole (c.before.args.width + c.before.args.over))
 
 low-requires-2 : tie.Need-low-requires-2
 low-requires-2 c κs = search rules
@@ -35,7 +35,7 @@ add-result-2 : tie.Need-overflow-add-result-2
 add-result-2 c =
     let a = c.before.before.before.args in
     let s = shifted a.width a.over a.v (omega arith) (omega arith) c.before.low2.ensures in
-    omega (arith, s.0, s.1, mod-le a.whole a.over, c.low3.ensures)
+    omega (arith, s.0, s.1, mod_le a.whole a.over, c.low3.ensures)
 
 returns : tie.Need-returns
 unfolding merge

@@ -1,7 +1,7 @@
 -- `bits::field::put_field` meets its contract: the field is put into its window, and the window into the octets. Assumes nothing.
 use native.Mathlib.Omega.{arith}
-use Rattle.bits.proofs.Laws.{octets-known}
-use Rattle.bits.proofs.Window.{field-put-in}
+use Rattle.bits.proofs.Laws.{octets_known}
+use Rattle.bits.proofs.Window.{field_put_in}
 use borrow.Author.Rules.{rules}
 use Rattle.bits.proofs.field.put_field.Statement.{statement}
 use Rattle.bits.proofs.field.put_field.Tie as tie
@@ -37,7 +37,7 @@ returns : tie.Need-returns
 returns c =
     let d = c.before.before in
     let w = d.before.before.before in
-    field-put-in w.before.before.before.args.out.now _ _ _ _ (octets-known _ w.before.before.slice-known.given) (omega arith) w.window.ensures.0 d.before.merged.ensures d.put-window.ensures
+    field_put_in w.before.before.before.args.out.now _ _ _ _ (octets_known _ w.before.before.slice-known.given) (omega arith) w.window.ensures.0 d.before.merged.ensures d.put_window_law.ensures
 
 pub put-field-spec : {M : Type 1} → statement M
 put-field-spec =

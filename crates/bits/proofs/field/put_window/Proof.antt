@@ -4,7 +4,7 @@ use native.Mathlib.Omega.{arith}
 use Prim.Native.Nat.{◌≤◌}
 use lib.ListN.{length-set}
 use Rattle.bits.proofs.Aligned.{put_one}
-use Rattle.bits.proofs.Window.{Left, left-all, left_less, left-none}
+use Rattle.bits.proofs.Window.{Left, left_all, left_less, left_none}
 use Rattle.bits.proofs.field.put_window.Statement.{statement}
 use Rattle.bits.proofs.field.put_window.Tie as tie
 
@@ -29,7 +29,7 @@ returns c =
     put_one a.out.now a.first a.n a.v (omega arith) (omega arith)
 
 loop-holds : tie.Need-loop-init invariant-loop decreases-loop
-loop-holds c = (omega arith, left-all _ _ _ _)
+loop-holds c = (omega arith, left_all _ _ _ _)
 
 sub-k : tie.Need-overflow-sub-k invariant-loop decreases-loop
 sub-k c = omega arith
@@ -53,7 +53,7 @@ same-length-2 : tie.Need-same-length-2 invariant-loop decreases-loop
 same-length-2 c = c.before.loop.invariant.1.long
 
 returns-2 : tie.Need-returns-2 invariant-loop decreases-loop
-returns-2 c = left-none _ _ _ _ _ _ _ c.before.loop.invariant.1 (omega arith)
+returns-2 c = left_none _ _ _ _ _ _ _ c.before.loop.invariant.1 (omega arith)
 
 pub put-window-spec : {M : Type 1} → statement M
 put-window-spec =

@@ -3,9 +3,9 @@ use native.Mathlib.Omega.{arith}
 use Prim.Native.Nat.{◌≤◌, ◌-◌, ◌*◌}
 use mathlib.Core.Path.{◌≡◌, refl}
 use lib.ListN.{length, length-set}
-use Rattle.bits.proofs.Laws.{octets-known}
+use Rattle.bits.proofs.Laws.{octets_known}
 use Rattle.bits.proofs.Strings.{Copied, copied_none, copied_more, copied_all}
-use Rattle.bits.proofs.Aligned.{aligned-octet}
+use Rattle.bits.proofs.Aligned.{aligned_octet}
 use Rattle.bits.proofs.string.copy_octets.Statement.{statement}
 use Rattle.bits.proofs.string.copy_octets.Tie as tie
 
@@ -39,7 +39,7 @@ loop-less c = omega arith
 loop-again : tie.Need-loop-preserved invariant-loop decreases-loop
 loop-again c =
     let l = c.before.before.loop in
-    (omega arith, simp length-set l.invariant.1, copied_more _ _ _ _ _ l.invariant.2 (aligned-octet _ _ _ (octets-known _ c.shared-slice-known.given) refl) (omega arith))
+    (omega arith, simp length-set l.invariant.1, copied_more _ _ _ _ _ l.invariant.2 (aligned_octet _ _ _ (octets_known _ c.shared-slice-known.given) refl) (omega arith))
 
 same_length : tie.Need-same-length invariant-loop decreases-loop
 same_length c = c.before.loop.invariant.1

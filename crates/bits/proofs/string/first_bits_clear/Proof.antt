@@ -3,13 +3,13 @@ use native.Mathlib.Omega.{arith}
 use Prim.Native.Nat.{◌≤◌, ◌-◌}
 use mathlib.Core.Path.{◌≡◌}
 use mathlib.Core.Bool.{true}
-use Rattle.bits.specs.Strings.{eachFirstBitClear}
-use Rattle.bits.proofs.Strings.{found-outside, found_inside, inside-le, next-octet, clear_none, clear-more, clear_whole, clear-outside, clear-other}
+use Rattle.bits.specs.Strings.{each_first_bit_clear}
+use Rattle.bits.proofs.Strings.{found_outside, found_inside, inside_le, next_octet, clear_none, clear_more, clear_whole, clear_outside, clear_other}
 use Rattle.bits.proofs.string.first_bits_clear.Statement.{statement}
 use Rattle.bits.proofs.string.first_bits_clear.Tie as tie
 
 abbrev invariant-loop : tie.invariant-loop
-invariant-loop s start n k₀ k = (k ≤ n) × (eachFirstBitClear s start k ≡ true)
+invariant-loop s start n k₀ k = (k ≤ n) × (each_first_bit_clear s start k ≡ true)
 
 abbrev decreases-loop : tie.decreases-loop
 decreases-loop s start n k₀ k = n - k
@@ -18,7 +18,7 @@ inside-requires : tie.Need-inside-requires invariant-loop decreases-loop
 inside-requires c κs = tt
 
 returns : tie.Need-returns invariant-loop decreases-loop
-returns c = clear-outside _ _ _ (found-outside _ _ _ c.before.inside.ensures c.if1.true)
+returns c = clear_outside _ _ _ (found_outside _ _ _ c.before.inside.ensures c.if1.true)
 
 loop-holds : tie.Need-loop-init invariant-loop decreases-loop
 loop-holds c = (omega arith, clear_none _ _)
@@ -26,12 +26,12 @@ loop-holds c = (omega arith, clear_none _ _)
 string-octet-requires : tie.Need-string-octet-requires invariant-loop decreases-loop
 string-octet-requires c κs =
     let d = c.before.before in
-    omega (arith, inside-le _ _ _ (found_inside _ _ _ d.before.inside.ensures d.if1.false))
+    omega (arith, inside_le _ _ _ (found_inside _ _ _ d.before.inside.ensures d.if1.false))
 
 returns-2 : tie.Need-returns-2 invariant-loop decreases-loop
 returns-2 c =
     let l = c.before.before.before.loop in
-    clear-other _ _ _ l.k (omega arith) (next-octet _ _ _ c.before.string-octet.ensures) (omega arith)
+    clear_other _ _ _ l.k (omega arith) (next_octet _ _ _ c.before.string-octet.ensures) (omega arith)
 
 add-k : tie.Need-overflow-add-k invariant-loop decreases-loop
 add-k c = omega arith
@@ -42,7 +42,7 @@ loop-less c = omega arith
 loop-again : tie.Need-loop-preserved invariant-loop decreases-loop
 loop-again c =
     let l = c.before.before.before.loop in
-    (omega arith, clear-more _ _ l.k l.invariant.1 (next-octet _ _ _ c.before.string-octet.ensures) (omega arith))
+    (omega arith, clear_more _ _ l.k l.invariant.1 (next_octet _ _ _ c.before.string-octet.ensures) (omega arith))
 
 returns-3 : tie.Need-returns-3 invariant-loop decreases-loop
 returns-3 c =

@@ -2,7 +2,7 @@
 use native.Mathlib.Omega.{arith}
 use Prim.Native.Nat.{◌≤◌, ◌-◌}
 use mathlib.Core.Path.{◌≡◌, refl}
-use Rattle.bits.proofs.Laws.{octets-known}
+use Rattle.bits.proofs.Laws.{octets_known}
 use Rattle.bits.proofs.Aligned.{Same, same_none, same_more, same_whole}
 use Rattle.bits.proofs.string.same_octets.Statement.{statement}
 use Rattle.bits.proofs.string.same_octets.Tie as tie
@@ -39,7 +39,7 @@ loop-again c =
     let a = c.before.before.before.before.args in
     let l = c.before.before.before.loop in (
       omega arith,
-      same_more a.s.now a.first a.t.now a.other l.k (octets-known _ c.before.shared-slice-known.given) (octets-known _ c.shared-slice-known2.given) l.invariant.1 refl refl,
+      same_more a.s.now a.first a.t.now a.other l.k (octets_known _ c.before.shared-slice-known.given) (octets_known _ c.shared-slice-known2.given) l.invariant.1 refl refl,
     )
 
 returns : tie.Need-returns invariant-loop decreases-loop

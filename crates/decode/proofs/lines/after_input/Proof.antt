@@ -1,7 +1,7 @@
 -- Each turn starts behind the line feed of the one before.
 -- Assumes nothing.
 use Rattle.std.proofs.Common.{◌≡◌, ◌-◌, ◌≤◌, length, refl, arith}
-use Rattle.bench_lines.proofs.Marks.{end-behind, end-inside}
+use Rattle.bench_lines.proofs.Marks.{end_behind, end_inside}
 use Rattle.decode.proofs.lines.after_input.Statement.{statement}
 use Rattle.decode.proofs.lines.after_input.Tie as tie
 
@@ -18,13 +18,13 @@ line-end-requires : tie.Need-line-end-requires invariant-loop decreases-loop
 line-end-requires c κs = tt
 
 sub-keep-part : tie.Need-overflow-sub-keep-part invariant-loop decreases-loop
-sub-keep-part c = omega (arith, end-behind _ _ c.line-end.ensures, end-inside _ _ c.line-end.ensures c.before.before.loop.invariant.0)
+sub-keep-part c = omega (arith, end_behind _ _ c.line-end.ensures, end_inside _ _ c.line-end.ensures c.before.before.loop.invariant.0)
 
 part-keep-part-start : tie.Need-slice-bounds-keep-part-start invariant-loop decreases-loop
-part-keep-part-start c = omega (arith, end-behind _ _ c.line-end.ensures, end-inside _ _ c.line-end.ensures c.before.before.loop.invariant.0)
+part-keep-part-start c = omega (arith, end_behind _ _ c.line-end.ensures, end_inside _ _ c.line-end.ensures c.before.before.loop.invariant.0)
 
 part-keep-part-end : tie.Need-slice-bounds-keep-part-end invariant-loop decreases-loop
-part-keep-part-end c = omega (arith, end-behind _ _ c.line-end.ensures, end-inside _ _ c.line-end.ensures c.before.before.loop.invariant.0)
+part-keep-part-end c = omega (arith, end_behind _ _ c.line-end.ensures, end_inside _ _ c.line-end.ensures c.before.before.loop.invariant.0)
 
 keep-part-requires : tie.Need-keep-part-requires invariant-loop decreases-loop
 keep-part-requires c κs = tt
@@ -45,7 +45,7 @@ returns : tie.Need-returns invariant-loop decreases-loop
 returns c = tt
 
 add_at : tie.Need-overflow-add-at invariant-loop decreases-loop
-add_at c = omega (arith, c.if1.false, end-behind _ _ c.before.before.before.before.before.before.line-end.ensures, end-inside _ _ c.before.before.before.before.before.before.line-end.ensures c.before.before.before.before.before.before.before.before.loop.invariant.0)
+add_at c = omega (arith, c.if1.false, end_behind _ _ c.before.before.before.before.before.before.line-end.ensures, end_inside _ _ c.before.before.before.before.before.before.line-end.ensures c.before.before.before.before.before.before.before.before.loop.invariant.0)
 
 front-requires : tie.Need-front-requires invariant-loop decreases-loop
 front-requires c κs = tt
@@ -54,10 +54,10 @@ after-line-requires : tie.Need-after-line-requires invariant-loop decreases-loop
 after-line-requires c κs = tt
 
 loop-less : tie.Need-loop-smaller invariant-loop decreases-loop
-loop-less c = omega (arith, c.before.before.before.before.before.before.before.before.before.before.before.before.if1.false, end-behind _ _ c.before.before.before.before.before.before.before.before.before.before.before.before.before.before.before.before.before.before.line-end.ensures, end-inside _ _ c.before.before.before.before.before.before.before.before.before.before.before.before.before.before.before.before.before.before.line-end.ensures c.before.before.before.before.before.before.before.before.before.before.before.before.before.before.before.before.before.before.before.before.loop.invariant.0)
+loop-less c = omega (arith, c.before.before.before.before.before.before.before.before.before.before.before.before.if1.false, end_behind _ _ c.before.before.before.before.before.before.before.before.before.before.before.before.before.before.before.before.before.before.line-end.ensures, end_inside _ _ c.before.before.before.before.before.before.before.before.before.before.before.before.before.before.before.before.before.before.line-end.ensures c.before.before.before.before.before.before.before.before.before.before.before.before.before.before.before.before.before.before.before.before.loop.invariant.0)
 
 loop-again : tie.Need-loop-preserved invariant-loop decreases-loop
-loop-again c = (omega (arith, c.before.before.before.before.before.before.before.before.before.before.before.before.if1.false, end-behind _ _ c.before.before.before.before.before.before.before.before.before.before.before.before.before.before.before.before.before.before.line-end.ensures, end-inside _ _ c.before.before.before.before.before.before.before.before.before.before.before.before.before.before.before.before.before.before.line-end.ensures c.before.before.before.before.before.before.before.before.before.before.before.before.before.before.before.before.before.before.before.before.loop.invariant.0), omega (arith, c.before.before.before.before.before.before.before.before.before.before.before.before.before.before.before.before.before.before.before.before.loop.invariant.1, c.before.before.before.before.before.before.before.before.before.before.before.before.before.before.line.given), omega (arith, c.before.before.before.before.before.before.before.before.before.before.before.before.before.before.before.before.before.before.before.before.loop.invariant.2, c.before.before.before.before.before.octets.given), omega (arith, c.before.before.before.before.before.before.before.before.before.before.before.before.before.before.before.before.before.before.before.before.loop.invariant.3, c.before.before.before.again.given), omega (arith, c.before.before.before.before.before.before.before.before.before.before.before.before.before.before.before.before.before.before.before.before.loop.invariant.4, c.before.text.given))
+loop-again c = (omega (arith, c.before.before.before.before.before.before.before.before.before.before.before.before.if1.false, end_behind _ _ c.before.before.before.before.before.before.before.before.before.before.before.before.before.before.before.before.before.before.line-end.ensures, end_inside _ _ c.before.before.before.before.before.before.before.before.before.before.before.before.before.before.before.before.before.before.line-end.ensures c.before.before.before.before.before.before.before.before.before.before.before.before.before.before.before.before.before.before.before.before.loop.invariant.0), omega (arith, c.before.before.before.before.before.before.before.before.before.before.before.before.before.before.before.before.before.before.before.before.loop.invariant.1, c.before.before.before.before.before.before.before.before.before.before.before.before.before.before.line.given), omega (arith, c.before.before.before.before.before.before.before.before.before.before.before.before.before.before.before.before.before.before.before.before.loop.invariant.2, c.before.before.before.before.before.octets.given), omega (arith, c.before.before.before.before.before.before.before.before.before.before.before.before.before.before.before.before.before.before.before.before.loop.invariant.3, c.before.before.before.again.given), omega (arith, c.before.before.before.before.before.before.before.before.before.before.before.before.before.before.before.before.before.before.before.before.loop.invariant.4, c.before.text.given))
 
 same-length-5 : tie.Need-same-length-5 invariant-loop decreases-loop
 same-length-5 c = c.before.loop.invariant.1

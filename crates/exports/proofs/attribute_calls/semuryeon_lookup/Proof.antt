@@ -1,6 +1,6 @@
 -- `exports::attribute_calls::semuryeon_lookup` meets its contract: the call of the rows that the words are. Assumes nothing.
-use Rattle.exports.proofs.AttributeCallLaws.{lookup-refused, lookup-short, lookup-found}
-use Rattle.exports.proofs.AttributeNumbers.{unpacking-lookup, large-sought}
+use Rattle.exports.proofs.AttributeCallLaws.{lookup_refused, lookup_short, lookup_found}
+use Rattle.exports.proofs.AttributeNumbers.{unpacking_lookup, large_sought}
 use native.Mathlib.Omega.{arith}
 use borrow.Author.Rules.{rules}
 use Rattle.exports.proofs.attribute_calls.semuryeon_lookup.Statement.{statement}
@@ -28,7 +28,7 @@ packed-requires-2 : tie.Need-packed-requires-2
 packed-requires-2 c κs = search rules
 
 returns : tie.Need-returns
-returns c = (rw (← c.before.before.before.before.before.before.before.before.directory-in.ensures.0, ← c.before.before.before.before.before.before.before.narrow.ensures) (lookup-short _ _ _ _ _ _ c.before.before.before.before.before.knows-among.ensures _ c.before.before.before.answer2.given.1 (omega arith) c.packed2.ensures.0), (unpacking-lookup, large-sought))
+returns c = (rw (← c.before.before.before.before.before.before.before.before.directory-in.ensures.0, ← c.before.before.before.before.before.before.before.narrow.ensures) (lookup_short _ _ _ _ _ _ c.before.before.before.before.before.knows-among.ensures _ c.before.before.before.answer2.given.1 (omega arith) c.packed2.ensures.0), (unpacking_lookup, large_sought))
 
 row-for-requires : tie.Need-row-for-requires
 row-for-requires c κs = search rules
@@ -43,13 +43,13 @@ packed-requires-3 : tie.Need-packed-requires-3
 packed-requires-3 c κs = search rules
 
 returns-2 : tie.Need-returns-2
-returns-2 c = (rw (← c.before.before.before.before.before.before.before.directory-in.ensures.0, ← c.before.before.before.before.before.before.narrow.ensures) (lookup-refused _ _ _ _ _ _ c.before.before.before.before.knows-among.ensures _ c.before.before.answer.given.1 c.packed.ensures.0), (unpacking-lookup, large-sought))
+returns-2 c = (rw (← c.before.before.before.before.before.before.before.directory-in.ensures.0, ← c.before.before.before.before.before.before.narrow.ensures) (lookup_refused _ _ _ _ _ _ c.before.before.before.before.knows-among.ensures _ c.before.before.answer.given.1 c.packed.ensures.0), (unpacking_lookup, large_sought))
 
 same_length : tie.Need-same-length
 same_length c = search rules
 
 returns-3 : tie.Need-returns-3
-returns-3 c = (rw (← c.before.before.before.before.before.before.before.before.before.before.before.before.before.before.directory-in.ensures.0, ← c.before.before.before.before.before.before.before.before.before.before.before.before.before.narrow.ensures) (lookup-found _ _ _ _ _ _ c.before.before.before.before.before.before.before.before.before.before.before.knows-among.ensures _ c.before.before.before.before.before.before.before.before.before.answer2.given.1 (omega arith) c.before.known-kind.ensures c.packed3.ensures.0 c.before.before.before.before.before.before.row-for.ensures.0 c.before.before.before.before.put-part.ensures.0), (unpacking-lookup, large-sought))
+returns-3 c = (rw (← c.before.before.before.before.before.before.before.before.before.before.before.before.before.before.directory-in.ensures.0, ← c.before.before.before.before.before.before.before.before.before.before.before.before.before.narrow.ensures) (lookup_found _ _ _ _ _ _ c.before.before.before.before.before.before.before.before.before.before.before.knows-among.ensures _ c.before.before.before.before.before.before.before.before.before.answer2.given.1 (omega arith) c.before.known-kind.ensures c.packed3.ensures.0 c.before.before.before.before.before.before.row-for.ensures.0 c.before.before.before.before.put-part.ensures.0), (unpacking_lookup, large_sought))
 
 pub semuryeon-lookup-spec : {M : Type 1} → statement M
 semuryeon-lookup-spec =

@@ -1,6 +1,6 @@
 -- `exports::attribute_calls::told` meets its contract, case by case. Assumes nothing.
-use Rattle.exports.specs.AttributeCalls.{outcomeNumber}
-use Rattle.attributes.specs.Serving.{toldOf}
+use Rattle.exports.specs.AttributeCalls.{outcome_number}
+use Rattle.attributes.specs.Serving.{told_of}
 use borrow.Author.Rules.{rules}
 use Rattle.exports.proofs.attribute_calls.told.Statement.{statement}
 use Rattle.exports.proofs.attribute_calls.told.Tie as tie
@@ -30,19 +30,19 @@ packed-requires-4 : tie.Need-packed-requires-4
 packed-requires-4 c κs = search rules
 
 returns : tie.Need-returns
-unfolding outcomeNumber toldOf
+unfolding outcome_number told_of
 returns c = rw c.before.before.outcome.given.1 c.packed.ensures.0
 
 returns-2 : tie.Need-returns-2
-unfolding outcomeNumber toldOf
+unfolding outcome_number told_of
 returns-2 c = rw c.before.before.outcome2.given.1 c.packed2.ensures.0
 
 returns-3 : tie.Need-returns-3
-unfolding outcomeNumber toldOf
+unfolding outcome_number told_of
 returns-3 c = rw c.before.enum_told.given.1 c.packed3.ensures.0
 
 returns-4 : tie.Need-returns-4
-unfolding outcomeNumber toldOf
+unfolding outcome_number told_of
 returns-4 c = rw c.before.before.outcome3.given.1 c.packed4.ensures.0
 
 pub told-spec : {M : Type 1} → statement M

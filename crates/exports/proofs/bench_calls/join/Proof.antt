@@ -1,5 +1,5 @@
 -- `exports::bench_calls::join` meets its contract: the fragment call's, and what is shown of it. Assumes nothing.
-use Rattle.exports.proofs.BenchLaws.{lsdu-put}
+use Rattle.exports.proofs.BenchLaws.{lsdu_put}
 use borrow.Author.Rules.{rules}
 use Rattle.exports.proofs.bench_calls.join.Statement.{statement}
 use Rattle.exports.proofs.bench_calls.join.Tie as tie
@@ -24,7 +24,7 @@ same-length-3 c = search rules
 
 returns : tie.Need-returns
 returns c =
-    lsdu-put _ _ _ _ _ _ _ _ _ _ _ c.before.table-in.result c.before.before.before.before.before.before.before.before.before.joined.ensures c.before.table-in.ensures.0 c.shown.ensures
+    lsdu_put _ _ _ _ _ _ _ _ _ _ _ c.before.table-in.result c.before.before.before.before.before.before.before.before.before.joined.ensures c.before.table-in.ensures.0 c.shown.ensures
 
 pub join-spec : {M : Type 1} → statement M
 join-spec =

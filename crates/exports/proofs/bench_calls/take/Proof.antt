@@ -1,6 +1,6 @@
 -- `exports::bench_calls::take` meets its contract: a line is read and joined, or it goes no further. Assumes nothing.
 use mathlib.Core.Path.{refl}
-use Rattle.exports.proofs.BenchLaws.{read-put, refused-put}
+use Rattle.exports.proofs.BenchLaws.{read_put, refused_put}
 use borrow.Author.Rules.{rules}
 use Rattle.exports.proofs.bench_calls.take.Statement.{statement}
 use Rattle.exports.proofs.bench_calls.take.Tie as tie
@@ -43,10 +43,10 @@ returns c =
     let c6 = c.before.before.before.before.before.before in
     let c10 = c6.before.before.before.before in
     let c13 = c10.before.before.before in
-    read-put _ _ _ _ c13.before.before.before.read-line.ensures.0 refl _ _ _ _ _ _ _ _ _ _ _ c13.lid.given.1 c10.front.ensures c6.join.ensures
+    read_put _ _ _ _ c13.before.before.before.read-line.ensures.0 refl _ _ _ _ _ _ _ _ _ _ _ c13.lid.given.1 c10.front.ensures c6.join.ensures
 
 returns-2 : tie.Need-returns-2
-returns-2 c = refused-put _ _ _ _ c.before.before.before.before.before.read-line.ensures.0 refl _ _ _ _ _ c.before.before.number.given.1 c.no-octets.ensures
+returns-2 c = refused_put _ _ _ _ c.before.before.before.before.before.read-line.ensures.0 refl _ _ _ _ _ c.before.before.number.given.1 c.no-octets.ensures
 
 pub take_spec : {M : Type 1} → statement M
 take_spec =

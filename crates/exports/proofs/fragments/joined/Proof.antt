@@ -1,5 +1,5 @@
 -- `exports::fragments::joined` meets its contract: the call's, over the words. Assumes nothing.
-use Rattle.exports.proofs.Exported.{fragment-joined}
+use Rattle.exports.proofs.Exported.{fragment_joined}
 use borrow.Author.Rules.{rules}
 use Rattle.exports.proofs.fragments.joined.Statement.{statement}
 use Rattle.exports.proofs.fragments.joined.Tie as tie
@@ -29,7 +29,7 @@ returns : tie.Need-returns
 returns c =
     let c10 = c.before.before.before.before.before.before.before.before.before.before in
     let c13 = c10.before.before.before in
-    fragment-joined _ _ _ _ _ _ _ _ _ c13.table-in.result c10.fragment-change.result _ c13.table-in.ensures.0 c10.fragment-change.ensures
+    fragment_joined _ _ _ _ _ _ _ _ _ c13.table-in.result c10.fragment-change.result _ c13.table-in.ensures.0 c10.fragment-change.ensures
     c.before.before.before.before.taken.ensures c.before.before.keep-change.ensures
 
 pub joined-spec : {M : Type 1} → statement M

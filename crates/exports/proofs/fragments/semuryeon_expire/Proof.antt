@@ -1,5 +1,5 @@
 -- `exports::fragments::semuryeon_expire` meets its contract: the call's, over the words. Assumes nothing.
-use Rattle.exports.proofs.Exported.{expiry-exported}
+use Rattle.exports.proofs.Exported.{expiry_exported}
 use borrow.Author.Rules.{rules}
 use Rattle.exports.proofs.fragments.semuryeon_expire.Statement.{statement}
 use Rattle.exports.proofs.fragments.semuryeon_expire.Tie as tie
@@ -20,7 +20,7 @@ returns : tie.Need-returns
 returns c =
     let c4 = c.before.before.before.before in
     let start = c4.before.before.before.before in
-    expiry-exported start.args.table.now _ _ c4.before.table-in.result c4.expire.result c4.before.table-in.ensures.0 c.before.before.swept.ensures _ _ c4.expire.ensures
+    expiry_exported start.args.table.now _ _ c4.before.table-in.result c4.expire.result c4.before.table-in.ensures.0 c.before.before.swept.ensures _ _ c4.expire.ensures
 
 pub semuryeon-expire-spec : {M : Type 1} → statement M
 semuryeon-expire-spec =

@@ -1,6 +1,6 @@
 -- `exports::fragments::semuryeon_fragment` meets its contract: the call's, over the words. Assumes nothing.
-use Rattle.exports.proofs.Exported.{fragment-exported}
-use Rattle.exports.proofs.ExportedRuns.{exported-demand, exported-runs-exist}
+use Rattle.exports.proofs.Exported.{fragment_exported}
+use Rattle.exports.proofs.ExportedRuns.{exported_demand, exported_runs_exist}
 use borrow.Author.Rules.{rules}
 use Rattle.exports.proofs.fragments.semuryeon_fragment.Statement.{statement}
 use Rattle.exports.proofs.fragments.semuryeon_fragment.Tie as tie
@@ -23,7 +23,7 @@ same-length-3 c = search rules
 returns : tie.Need-returns
 returns c =
     let joined = c.before.before.before.before.before.before.before.joined.ensures in
-    (fragment-exported _ _ _ _ _ _ _ _ _ _ _ joined c.fragment-number.ensures, (exported-demand, exported-runs-exist))
+    (fragment_exported _ _ _ _ _ _ _ _ _ _ _ joined c.fragment-number.ensures, (exported_demand, exported_runs_exist))
 
 pub semuryeon-fragment-spec : {M : Type 1} → statement M
 semuryeon-fragment-spec =

@@ -1,8 +1,8 @@
 -- `exports::fragments::swept` meets its contract, case by case. Assumes nothing.
 use mathlib.Core.Path.{refl}
-use Rattle.exports.proofs.Exported.{swept-put}
-use Rattle.exports.specs.Fragments.{isSwept, sweepNumber}
-use Rattle.exports.specs.Putting.{keptTable}
+use Rattle.exports.proofs.Exported.{swept_put}
+use Rattle.exports.specs.Fragments.{is_swept, sweep_number}
+use Rattle.exports.specs.Putting.{kept_table}
 use borrow.Author.Rules.{rules}
 use Rattle.exports.proofs.fragments.swept.Statement.{statement}
 use Rattle.exports.proofs.fragments.swept.Tie as tie
@@ -26,17 +26,17 @@ same_length : tie.Need-same-length
 same_length c = search rules
 
 returns : tie.Need-returns
-unfolding isSwept sweepNumber keptTable
+unfolding is_swept sweep_number kept_table
 returns c =
     let c6 = c.before.before.before.before.before.before in
     let start = c6.before.before.before.before in
-    swept-put start.args.table.now start.args.res _ _ _ c6.answer.given.1 c.packed.ensures.0 c.before.before.before.put-table.ensures.0
+    swept_put start.args.table.now start.args.res _ _ _ c6.answer.given.1 c.packed.ensures.0 c.before.before.before.put-table.ensures.0
 
 returns-2 : tie.Need-returns-2
-unfolding isSwept sweepNumber keptTable
+unfolding is_swept sweep_number kept_table
 returns-2 c =
     let start = c.before.before.before.before.before.before in
-    swept-put start.args.table.now start.args.res _ _ _ c.before.before.answer2.given.1 c.packed2.ensures.0 refl
+    swept_put start.args.table.now start.args.res _ _ _ c.before.before.answer2.given.1 c.packed2.ensures.0 refl
 
 pub swept-spec : {M : Type 1} → statement M
 swept-spec =

@@ -3,9 +3,9 @@ use mathlib.Core.Path.{◌≡◌, sym, ap, ◌∙◌}
 use mathlib.Core.Bool.{not}
 use lib.Dec.{eqb}
 use Rattle.header.specs.declared.HeaderWritten.{HeaderWritten}
-use Rattle.header.specs.Header.{writeAnswer}
-use Rattle.exports.specs.Headers.{headerFrom, writtenNumber}
-use Rattle.exports.proofs.HeaderLaws.{written-by, unpacking-written, large-number}
+use Rattle.header.specs.Header.{write_answer}
+use Rattle.exports.specs.Headers.{header_from, written_number}
+use Rattle.exports.proofs.HeaderLaws.{written_by, unpacking_written, large_number}
 use borrow.Author.Rules.{rules}
 use Rattle.exports.proofs.headers.semuryeon_header_write.Statement.{statement}
 use Rattle.exports.proofs.headers.semuryeon_header_write.Tie as tie
@@ -32,31 +32,31 @@ same_length : tie.Need-same-length
 same_length c = search rules
 
 returns : tie.Need-returns
-unfolding headerFrom writtenNumber writeAnswer
+unfolding header_from written_number write_answer
 returns c =
     let c6 = c.before.before.before.before.before.before in
     let start = c6.before.before.before.before in
-    let header : _ ≡ headerFrom start.args.last start.args.number start.args.counter =
+    let header : _ ≡ header_from start.args.last start.args.number start.args.counter =
     λ i. record { last = not (eqb start.args.last 0); number = c6.before.before.narrow.ensures i; counter = start.args.counter } in
-    let told = c.packed.ensures.0 ∙ sym (ap (λ (x : HeaderWritten). writtenNumber (writeAnswer x)) c.before.before.n.given.1) in
+    let told = c.packed.ensures.0 ∙ sym (ap (λ (x : HeaderWritten). written_number (write_answer x)) c.before.before.n.given.1) in
     let written =
-    written-by (headerFrom start.args.last start.args.number start.args.counter) _ start.args.out.now _ _ c6.write.result header c6.write.ensures.0 told in
-    (written, (unpacking-written, large-number))
+    written_by (header_from start.args.last start.args.number start.args.counter) _ start.args.out.now _ _ c6.write.result header c6.write.ensures.0 told in
+    (written, (unpacking_written, large_number))
 
 same-length-2 : tie.Need-same-length-2
 same-length-2 c = search rules
 
 returns-2 : tie.Need-returns-2
-unfolding headerFrom writtenNumber writeAnswer
+unfolding header_from written_number write_answer
 returns-2 c =
     let c6 = c.before.before.before.before.before.before in
     let start = c6.before.before.before.before in
-    let header : _ ≡ headerFrom start.args.last start.args.number start.args.counter =
+    let header : _ ≡ header_from start.args.last start.args.number start.args.counter =
     λ i. record { last = not (eqb start.args.last 0); number = c6.before.before.narrow.ensures i; counter = start.args.counter } in
-    let told = c.packed2.ensures.0 ∙ sym (ap (λ (x : HeaderWritten). writtenNumber (writeAnswer x)) c.before.before.k.given.1) in
+    let told = c.packed2.ensures.0 ∙ sym (ap (λ (x : HeaderWritten). written_number (write_answer x)) c.before.before.k.given.1) in
     let written =
-    written-by (headerFrom start.args.last start.args.number start.args.counter) _ start.args.out.now _ _ c6.write.result header c6.write.ensures.0 told in
-    (written, (unpacking-written, large-number))
+    written_by (header_from start.args.last start.args.number start.args.counter) _ start.args.out.now _ _ c6.write.result header c6.write.ensures.0 told in
+    (written, (unpacking_written, large_number))
 
 pub semuryeon-header-write-spec : {M : Type 1} → statement M
 semuryeon-header-write-spec =

@@ -1,5 +1,5 @@
 -- `exports::link_calls::changed` meets its contract, case by case. Assumes nothing.
-use Rattle.exports.specs.LinkCalls.{changeNumber, changeWords}
+use Rattle.exports.specs.LinkCalls.{change_number, change_words}
 use mathlib.Core.Path.{refl}
 use borrow.Author.Rules.{rules}
 use Rattle.exports.proofs.link_calls.changed.Statement.{statement}
@@ -24,11 +24,11 @@ same_length : tie.Need-same-length
 same_length c = search rules
 
 returns : tie.Need-returns
-unfolding changeNumber changeWords
-returns c = rw c.before.before.before.before.before.enum_told.given.1 (c.packed.ensures.0, c.before.before.before.put-link.ensures.0)
+unfolding change_number change_words
+returns c = rw c.before.before.before.before.before.enum_told.given.1 (c.packed.ensures.0, c.before.before.before.put_link_law.ensures.0)
 
 returns-2 : tie.Need-returns-2
-unfolding changeNumber changeWords
+unfolding change_number change_words
 returns-2 c = rw c.before.before.answer.given.1 (c.packed2.ensures.0, refl)
 
 pub changed-spec : {M : Type 1} → statement M

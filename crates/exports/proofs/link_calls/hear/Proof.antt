@@ -1,5 +1,5 @@
 -- `exports::link_calls::hear` meets its contract. Assumes nothing.
-use Rattle.exports.proofs.LinkCallLaws.{heard-is}
+use Rattle.exports.proofs.LinkCallLaws.{heard_is}
 use borrow.Author.Rules.{rules}
 use Rattle.exports.proofs.link_calls.hear.Statement.{statement}
 use Rattle.exports.proofs.link_calls.hear.Tie as tie
@@ -23,7 +23,7 @@ same-length-2 : tie.Need-same-length-2
 same-length-2 c = search rules
 
 returns : tie.Need-returns
-returns c = rw (← c.before.before.before.before.before.before.before.before.before.link-in.ensures.0, ← c.before.before.before.before.before.before.before.before.elements-in.ensures.0) (heard-is _ _ c.before.before.before.before.before.before.hear-bst.ensures.0 c.before.before.replied.ensures)
+returns c = rw (← c.before.before.before.before.before.before.before.before.before.link-in.ensures.0, ← c.before.before.before.before.before.before.before.before.elements-in.ensures.0) (heard_is _ _ c.before.before.before.before.before.before.hear-bst.ensures.0 c.before.before.replied.ensures)
 
 pub hear-spec : {M : Type 1} → statement M
 hear-spec =

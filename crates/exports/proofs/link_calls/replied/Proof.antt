@@ -1,5 +1,5 @@
 -- `exports::link_calls::replied` meets its contract, case by case. Assumes nothing.
-use Rattle.exports.specs.LinkCalls.{replyNumber, replyWords}
+use Rattle.exports.specs.LinkCalls.{reply_number, reply_words}
 use mathlib.Core.Path.{refl}
 use borrow.Author.Rules.{rules}
 use Rattle.exports.proofs.link_calls.replied.Statement.{statement}
@@ -33,18 +33,18 @@ same_length : tie.Need-same-length
 same_length c = search rules
 
 returns : tie.Need-returns
-unfolding replyNumber replyWords
-returns c = rw c.before.before.before.before.before.enum_told.given.1 (c.packed.ensures.0, c.before.before.before.put-link.ensures.0)
+unfolding reply_number reply_words
+returns c = rw c.before.before.before.before.before.enum_told.given.1 (c.packed.ensures.0, c.before.before.before.put_link_law.ensures.0)
 
 same-length-2 : tie.Need-same-length-2
 same-length-2 c = search rules
 
 returns-2 : tie.Need-returns-2
-unfolding replyNumber replyWords
+unfolding reply_number reply_words
 returns-2 c = rw c.before.before.before.before.before.before.answer.given.1 (c.packed2.ensures.0, c.before.before.before.put-link2.ensures.0)
 
 returns-3 : tie.Need-returns-3
-unfolding replyNumber replyWords
+unfolding reply_number reply_words
 returns-3 c = rw c.before.before.answer2.given.1 (c.packed3.ensures.0, refl)
 
 pub replied-spec : {M : Type 1} → statement M

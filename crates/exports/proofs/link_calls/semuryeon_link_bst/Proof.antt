@@ -1,7 +1,7 @@
 -- `exports::link_calls::semuryeon_link_bst` meets its contract, for the record that reading makes. Assumes nothing.
-use Rattle.exports.proofs.LinkCallLaws.{bst-refused, bst-other, bst-heard}
-use Rattle.exports.proofs.LinkKept.{kept-heard}
-use Rattle.exports.proofs.LinkNumbers.{unpacking-bst}
+use Rattle.exports.proofs.LinkCallLaws.{bst_refused, bst_other, bst_heard}
+use Rattle.exports.proofs.LinkKept.{kept_heard}
+use Rattle.exports.proofs.LinkNumbers.{unpacking_bst}
 use borrow.Author.Rules.{rules}
 use Rattle.exports.proofs.link_calls.semuryeon_link_bst.Statement.{statement}
 use Rattle.exports.proofs.link_calls.semuryeon_link_bst.Tie as tie
@@ -34,10 +34,10 @@ hear-requires : tie.Need-hear-requires
 hear-requires c κs = search rules
 
 returns : tie.Need-returns
-returns c = (bst-refused _ _ _ c.before.before.before.before.before.read.ensures.0 _ _ c.before.before.answer.given.1 c.packed.ensures.0, (unpacking-bst, kept-heard))
+returns c = (bst_refused _ _ _ c.before.before.before.before.before.read.ensures.0 _ _ c.before.before.answer.given.1 c.packed.ensures.0, (unpacking_bst, kept_heard))
 
 returns-2 : tie.Need-returns-2
-returns-2 c = (bst-other _ _ _ c.before.before.before.before.before.before.before.before.read.ensures.0 _ _ c.before.before.before.before.before.answer2.given.1 c.before.before.before.offer-of.ensures c.before.enum_told.given.1 c.packed2.ensures.0, (unpacking-bst, kept-heard))
+returns-2 c = (bst_other _ _ _ c.before.before.before.before.before.before.before.before.read.ensures.0 _ _ c.before.before.before.before.before.answer2.given.1 c.before.before.before.offer-of.ensures c.before.enum_told.given.1 c.packed2.ensures.0, (unpacking_bst, kept_heard))
 
 same_length : tie.Need-same-length
 same_length c = search rules
@@ -46,7 +46,7 @@ same-length-2 : tie.Need-same-length-2
 same-length-2 c = search rules
 
 returns-3 : tie.Need-returns-3
-returns-3 c = (bst-heard _ _ _ c.before.before.before.before.before.before.before.before.before.before.before.before.before.before.before.read.ensures.0 _ _ c.before.before.before.before.before.before.before.before.before.before.before.before.answer2.given.1 c.before.before.before.before.before.before.before.before.before.before.offer-of.ensures _ c.before.before.before.before.before.before.before.before.offer.given.1 c.before.before.before.before.hear.ensures, (unpacking-bst, kept-heard))
+returns-3 c = (bst_heard _ _ _ c.before.before.before.before.before.before.before.before.before.before.before.before.before.before.before.read.ensures.0 _ _ c.before.before.before.before.before.before.before.before.before.before.before.before.answer2.given.1 c.before.before.before.before.before.before.before.before.before.before.offer-of.ensures _ c.before.before.before.before.before.before.before.before.offer.given.1 c.before.before.before.before.hear.ensures, (unpacking_bst, kept_heard))
 
 pub semuryeon-link-bst-spec : {M : Type 1} → statement M
 semuryeon-link-bst-spec =

@@ -1,7 +1,7 @@
 -- `exports::link_calls::semuryeon_link_tick` meets its contract: the call of the link that the words are. Assumes nothing.
 use Rattle.exports.proofs.LinkCallLaws.{changes}
-use Rattle.exports.proofs.LinkKept.{kept-ticked}
-use Rattle.exports.proofs.LinkNumbers.{unpacking-tick}
+use Rattle.exports.proofs.LinkKept.{kept_ticked}
+use Rattle.exports.proofs.LinkNumbers.{unpacking_tick}
 use borrow.Author.Rules.{rules}
 use Rattle.exports.proofs.link_calls.semuryeon_link_tick.Statement.{statement}
 use Rattle.exports.proofs.link_calls.semuryeon_link_tick.Tie as tie
@@ -19,7 +19,7 @@ same_length : tie.Need-same-length
 same_length c = search rules
 
 returns : tie.Need-returns
-returns c = (rw (← c.before.before.before.before.before.link-in.ensures.0) (changes _ _ c.before.before.before.before.tick.ensures.answer-is c.before.before.before.before.tick.ensures.link-is c.before.before.changed.ensures), (unpacking-tick, kept-ticked))
+returns c = (rw (← c.before.before.before.before.before.link-in.ensures.0) (changes _ _ c.before.before.before.before.tick.ensures.answer_is c.before.before.before.before.tick.ensures.link_is c.before.before.changed.ensures), (unpacking_tick, kept_ticked))
 
 pub semuryeon-link-tick-spec : {M : Type 1} → statement M
 semuryeon-link-tick-spec =

@@ -1,5 +1,5 @@
 -- `exports::messages::checked` meets its contract, case by case. Assumes nothing.
-use Rattle.words.specs.Answer.{answerNumber}
+use Rattle.words.specs.Answer.{answer_number}
 use Prim.Native.Nat.{ℕ}
 use mathlib.Core.Path.{ap, ◌∙◌}
 use borrow.Author.Rules.{rules}
@@ -22,7 +22,7 @@ packed-requires-2 : tie.Need-packed-requires-2
 packed-requires-2 c κs = search rules
 
 returns : tie.Need-returns
-returns c = rw c.before.before.before.answer.given.1 (c.packed.ensures.0 ∙ ap (λ (k : ℕ). answerNumber 0 k 0 0) c.before.choice-of.ensures)
+returns c = rw c.before.before.before.answer.given.1 (c.packed.ensures.0 ∙ ap (λ (k : ℕ). answer_number 0 k 0 0) c.before.choice-of.ensures)
 
 returns-2 : tie.Need-returns-2
 returns-2 c = rw c.before.before.answer2.given.1 c.packed2.ensures.0

@@ -1,5 +1,5 @@
 -- `exports::messages::rewritten` meets its contract, case by case. Assumes nothing.
-use Rattle.exports.specs.Messages.{writtenNumber}
+use Rattle.exports.specs.Messages.{written_number}
 use Rattle.apdu_rewriting.specs.Rewriting.{answer_of}
 use borrow.Author.Rules.{rules}
 use Rattle.exports.proofs.messages.rewritten.Statement.{statement}
@@ -18,11 +18,11 @@ written-requires : tie.Need-written-requires
 written-requires c κs = search rules
 
 returns : tie.Need-returns
-unfolding writtenNumber answer_of
+unfolding written_number answer_of
 returns c = rw c.before.before.answer.given.1 c.packed.ensures.0
 
 returns-2 : tie.Need-returns-2
-unfolding writtenNumber answer_of
+unfolding written_number answer_of
 returns-2 c = rw c.before.before.answer2.given.1 c.written.ensures
 
 pub rewritten-spec : {M : Type 1} → statement M

@@ -1,6 +1,6 @@
 -- `exports::messages::semuryeon_rewrite` meets its contract: it packs what rewriting answers. Assumes nothing.
-use Rattle.exports.specs.Messages.{writtenNumber}
-use Rattle.exports.proofs.ReadingBack.{unpacking-rewritten}
+use Rattle.exports.specs.Messages.{written_number}
+use Rattle.exports.proofs.ReadingBack.{unpacking_rewritten}
 use mathlib.Core.Path.{ap, ◌∙◌}
 use borrow.Author.Rules.{rules}
 use Rattle.exports.proofs.messages.semuryeon_rewrite.Statement.{statement}
@@ -18,7 +18,7 @@ same_length c = search rules
 returns : tie.Need-returns
 returns c =
     let e = c.before.before.before.rewrite.ensures.0 in
-    ((c.rewritten.ensures ∙ ap writtenNumber e.0, e.1), unpacking-rewritten)
+    ((c.rewritten.ensures ∙ ap written_number e.0, e.1), unpacking_rewritten)
 
 pub semuryeon-rewrite-spec : {M : Type 1} → statement M
 semuryeon-rewrite-spec =

@@ -1,5 +1,5 @@
 -- `exports::messages::written` meets its contract, case by case. Assumes nothing.
-use Rattle.exports.specs.Messages.{writtenNumber}
+use Rattle.exports.specs.Messages.{written_number}
 use Rattle.apdu_writing.specs.Answer.{answer_of}
 use borrow.Author.Rules.{rules}
 use Rattle.exports.proofs.messages.written.Statement.{statement}
@@ -30,19 +30,19 @@ packed-requires-4 : tie.Need-packed-requires-4
 packed-requires-4 c κs = search rules
 
 returns : tie.Need-returns
-unfolding writtenNumber answer_of
+unfolding written_number answer_of
 returns c = rw c.before.enum_told.given.1 c.packed.ensures.0
 
 returns-2 : tie.Need-returns-2
-unfolding writtenNumber answer_of
+unfolding written_number answer_of
 returns-2 c = rw c.before.before.w.given.1 c.packed2.ensures.0
 
 returns-3 : tie.Need-returns-3
-unfolding writtenNumber answer_of
+unfolding written_number answer_of
 returns-3 c = rw c.before.enum-told2.given.1 c.packed3.ensures.0
 
 returns-4 : tie.Need-returns-4
-unfolding writtenNumber answer_of
+unfolding written_number answer_of
 returns-4 c = rw c.before.before.w2.given.1 c.packed4.ensures.0
 
 pub written-spec : {M : Type 1} → statement M

@@ -1,5 +1,5 @@
 -- `exports::strings::give` meets its contract. Assumes nothing.
-use Rattle.exports.proofs.StringLaws.{give-none, give_all, give-small}
+use Rattle.exports.proofs.StringLaws.{give_none, give_all, give_small}
 use borrow.Author.Rules.{rules}
 use Rattle.exports.proofs.strings.give.Statement.{statement}
 use Rattle.exports.proofs.strings.give.Tie as tie
@@ -8,7 +8,7 @@ packed-requires : tie.Need-packed-requires
 packed-requires c κs = search rules
 
 returns : tie.Need-returns
-returns c = give-none _ _ _ c.before.if1.true c.packed.ensures.0
+returns c = give_none _ _ _ c.before.if1.true c.packed.ensures.0
 
 copy-string-requires : tie.Need-copy-string-requires
 copy-string-requires c κs = search rules
@@ -29,7 +29,7 @@ same-length-2 : tie.Need-same-length-2
 same-length-2 c = search rules
 
 returns-3 : tie.Need-returns-3
-returns-3 c = give-small _ _ _ c.before.before.before.before.before.before.if1.false c.before.before.before.before.copy-string.ensures c.before.if2.false c.packed3.ensures.0
+returns-3 c = give_small _ _ _ c.before.before.before.before.before.before.if1.false c.before.before.before.before.copy-string.ensures c.before.if2.false c.packed3.ensures.0
 
 pub give_spec : {M : Type 1} → statement M
 give_spec =

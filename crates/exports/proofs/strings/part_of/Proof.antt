@@ -1,5 +1,5 @@
 -- `exports::strings::part_of` meets its contract. Assumes nothing.
-use Rattle.exports.proofs.StringLaws.{part-credentials, part-parameter, part-row, part-entry, part_none}
+use Rattle.exports.proofs.StringLaws.{part_credentials, part_parameter, part_row, part_entry, part_none}
 use borrow.Author.Rules.{rules}
 use Rattle.exports.proofs.strings.part_of.Statement.{statement}
 use Rattle.exports.proofs.strings.part_of.Tie as tie
@@ -8,13 +8,13 @@ credentials-of-requires : tie.Need-credentials-of-requires
 credentials-of-requires c κs = search rules
 
 returns : tie.Need-returns
-returns c = part-credentials _ _ _ c.before.if1.true c.credentials-of.ensures
+returns c = part_credentials _ _ _ c.before.if1.true c.credentials-of.ensures
 
 parameter-of-requires : tie.Need-parameter-of-requires
 parameter-of-requires c κs = search rules
 
 returns-2 : tie.Need-returns-2
-returns-2 c = part-parameter _ _ _ c.before.before.if1.false c.before.if2.true c.parameter-of.ensures
+returns-2 c = part_parameter _ _ _ c.before.before.if1.false c.before.if2.true c.parameter-of.ensures
 
 sub-i : tie.Need-overflow-sub-i
 sub-i c = search rules
@@ -32,7 +32,7 @@ row-string-requires : tie.Need-row-string-requires
 row-string-requires c κs = search rules
 
 returns-3 : tie.Need-returns-3
-returns-3 c = part-row _ _ _ c.before.before.before.before.if1.false c.before.before.before.if2.false c.before.before.if3.true c.row-string.ensures
+returns-3 c = part_row _ _ _ c.before.before.before.before.if1.false c.before.before.before.if2.false c.before.before.if3.true c.row-string.ensures
 
 cast-i-2 : tie.Need-overflow-cast-i-2
 cast-i-2 c = search rules
@@ -47,7 +47,7 @@ entry-string-requires : tie.Need-entry-string-requires
 entry-string-requires c κs = search rules
 
 returns-4 : tie.Need-returns-4
-returns-4 c = part-entry _ _ _ c.before.before.before.before.before.if1.false c.before.before.before.before.if2.false c.before.before.before.if3.false c.before.before.if4.true c.entry-string.ensures
+returns-4 c = part_entry _ _ _ c.before.before.before.before.before.if1.false c.before.before.before.before.if2.false c.before.before.before.if3.false c.before.before.if4.true c.entry-string.ensures
 
 no-string-requires : tie.Need-no-string-requires
 no-string-requires c κs = search rules

@@ -1,6 +1,6 @@
 -- `exports::strings::semuryeon_string` meets its contract, for the record that reading makes. Assumes nothing.
-use Rattle.exports.proofs.StringLaws.{string-refused, string-given}
-use Rattle.exports.proofs.StringInside.{each-string}
+use Rattle.exports.proofs.StringLaws.{string_refused, string_given}
+use Rattle.exports.proofs.StringInside.{each_string}
 use borrow.Author.Rules.{rules}
 use Rattle.exports.proofs.strings.semuryeon_string.Statement.{statement}
 use Rattle.exports.proofs.strings.semuryeon_string.Tie as tie
@@ -24,13 +24,13 @@ give-requires : tie.Need-give-requires
 give-requires c κs = search rules
 
 returns : tie.Need-returns
-returns c = (string-refused _ _ _ _ c.before.before.before.before.before.read.ensures.0 _ _ c.before.before.answer.given.1 c.packed.ensures.0, each-string)
+returns c = (string_refused _ _ _ _ c.before.before.before.before.before.read.ensures.0 _ _ c.before.before.answer.given.1 c.packed.ensures.0, each_string)
 
 same_length : tie.Need-same-length
 same_length c = search rules
 
 returns-2 : tie.Need-returns-2
-returns-2 c = (string-given _ _ _ _ c.before.before.before.before.before.before.before.before.before.read.ensures.0 _ c.before.before.before.before.before.before.answer2.given.1 c.before.before.before.before.part_of.ensures c.before.before.give.ensures, each-string)
+returns-2 c = (string_given _ _ _ _ c.before.before.before.before.before.before.before.before.before.read.ensures.0 _ c.before.before.before.before.before.before.answer2.given.1 c.before.before.before.before.part_of.ensures c.before.before.give.ensures, each_string)
 
 pub semuryeon-string-spec : {M : Type 1} → statement M
 semuryeon-string-spec =

@@ -1,13 +1,13 @@
 -- The elements before i are sound, and none behind one of them has its eid.
 -- Assumes nothing.
 use Rattle.std.proofs.Common.{◌≡◌, ◌-◌, ◌≤◌, length, take, drop, sym, refl, ◌∙◌, arith}
-use Rattle.initialisation.specs.Elements.{eachSound}
-use Rattle.initialisation.proofs.ElementLaws.{list_length, each-bad, each_twice, each_next, each_none}
+use Rattle.initialisation.specs.Elements.{each_sound}
+use Rattle.initialisation.proofs.ElementLaws.{list_length, each_bad, each_twice, each_next, each_none}
 use Rattle.initialisation.proofs.elements.each_sound.Statement.{statement}
 use Rattle.initialisation.proofs.elements.each_sound.Tie as tie
 
 abbrev invariant-loop : tie.invariant-loop
-invariant-loop octets own n i₀ i = (i ≤ n) × (eachSound octets (take n own.list) ≡ eachSound octets (drop i (take n own.list)))
+invariant-loop octets own n i₀ i = (i ≤ n) × (each_sound octets (take n own.list) ≡ each_sound octets (drop i (take n own.list)))
 
 abbrev decreases-loop : tie.decreases-loop
 decreases-loop octets own n i₀ i = n - i
@@ -29,7 +29,7 @@ element-sound-requires : tie.Need-element-sound-requires invariant-loop decrease
 element-sound-requires c κs = tt
 
 returns : tie.Need-returns invariant-loop decreases-loop
-returns c = let a = c.before.before.before.before in sym (a.loop.invariant.1 ∙ each-bad _ _ (there a) _ a.loop.i (omega arith) c.before.element-sound.ensures c.if1.true)
+returns c = let a = c.before.before.before.before in sym (a.loop.invariant.1 ∙ each_bad _ _ (there a) _ a.loop.i (omega arith) c.before.element_sound_law.ensures c.if1.true)
 
 add-none-has : tie.Need-overflow-add-none-has invariant-loop decreases-loop
 add-none-has c = omega arith
@@ -38,7 +38,7 @@ none-has-requires : tie.Need-none-has-requires invariant-loop decreases-loop
 none-has-requires c κs = omega arith
 
 returns-2 : tie.Need-returns-2 invariant-loop decreases-loop
-returns-2 c = let a = c.before.before.before.before.before.before in sym (a.loop.invariant.1 ∙ each_twice _ _ (there a) _ a.loop.i (omega arith) c.before.before.before.element-sound.ensures c.before.before.if1.false c.before.none_has.ensures c.if2.true)
+returns-2 c = let a = c.before.before.before.before.before.before in sym (a.loop.invariant.1 ∙ each_twice _ _ (there a) _ a.loop.i (omega arith) c.before.before.before.element_sound_law.ensures c.before.before.if1.false c.before.none_has.ensures c.if2.true)
 
 add-i : tie.Need-overflow-add-i invariant-loop decreases-loop
 add-i c = omega arith
@@ -47,7 +47,7 @@ loop-less : tie.Need-loop-smaller invariant-loop decreases-loop
 loop-less c = omega arith
 
 loop-again : tie.Need-loop-preserved invariant-loop decreases-loop
-loop-again c = let a = c.before.before.before.before.before.before in (omega arith, a.loop.invariant.1 ∙ each_next _ _ (there a) _ a.loop.i (omega arith) c.before.before.before.element-sound.ensures c.before.before.if1.false c.before.none_has.ensures c.if2.false)
+loop-again c = let a = c.before.before.before.before.before.before in (omega arith, a.loop.invariant.1 ∙ each_next _ _ (there a) _ a.loop.i (omega arith) c.before.before.before.element_sound_law.ensures c.before.before.if1.false c.before.none_has.ensures c.if2.false)
 
 returns-3 : tie.Need-returns-3 invariant-loop decreases-loop
 returns-3 c = let a = c.before in sym (a.loop.invariant.1 ∙ each_none _ _ (there a) _ a.loop.i (omega arith))

@@ -1,13 +1,13 @@
 -- No element before i has the eid.
 -- Assumes nothing.
 use Rattle.std.proofs.Common.{◌≡◌, ◌-◌, ◌≤◌, length, take, drop, sym, refl, ◌∙◌, arith}
-use Rattle.initialisation.specs.Elements.{noneHas}
-use Rattle.initialisation.proofs.ElementLaws.{list_length, has-it, has-next, has-none}
+use Rattle.initialisation.specs.Elements.{none_has}
+use Rattle.initialisation.proofs.ElementLaws.{list_length, has_it, has_next, has_none}
 use Rattle.initialisation.proofs.elements.none_has.Statement.{statement}
 use Rattle.initialisation.proofs.elements.none_has.Tie as tie
 
 abbrev invariant-loop : tie.invariant-loop
-invariant-loop from eid own n i₀ i = (i ≤ n) × (noneHas eid (drop from (take n own.list)) ≡ noneHas eid (drop i (take n own.list)))
+invariant-loop from eid own n i₀ i = (i ≤ n) × (none_has eid (drop from (take n own.list)) ≡ none_has eid (drop i (take n own.list)))
 
 abbrev decreases-loop : tie.decreases-loop
 decreases-loop from eid own n i₀ i = n - i
@@ -26,7 +26,7 @@ element-copy-out-element : tie.Need-element-copy-out-element invariant-loop decr
 element-copy-out-element c = omega arith
 
 returns : tie.Need-returns invariant-loop decreases-loop
-returns c = let a = c.before.before.before.before in sym (a.loop.invariant.1 ∙ has-it _ _ (there a) _ a.loop.i (omega arith) c.if1.true)
+returns c = let a = c.before.before.before.before in sym (a.loop.invariant.1 ∙ has_it _ _ (there a) _ a.loop.i (omega arith) c.if1.true)
 
 add-i : tie.Need-overflow-add-i invariant-loop decreases-loop
 add-i c = omega arith
@@ -35,10 +35,10 @@ loop-less : tie.Need-loop-smaller invariant-loop decreases-loop
 loop-less c = omega arith
 
 loop-again : tie.Need-loop-preserved invariant-loop decreases-loop
-loop-again c = let a = c.before.before.before.before in (omega arith, a.loop.invariant.1 ∙ has-next _ _ (there a) _ a.loop.i (omega arith) c.if1.false)
+loop-again c = let a = c.before.before.before.before in (omega arith, a.loop.invariant.1 ∙ has_next _ _ (there a) _ a.loop.i (omega arith) c.if1.false)
 
 returns-2 : tie.Need-returns-2 invariant-loop decreases-loop
-returns-2 c = let a = c.before in sym (a.loop.invariant.1 ∙ has-none _ _ (there a) _ a.loop.i (omega arith))
+returns-2 c = let a = c.before in sym (a.loop.invariant.1 ∙ has_none _ _ (there a) _ a.loop.i (omega arith))
 
 pub none-has-spec : {M : Type 1} → statement M
 none-has-spec =

@@ -1,9 +1,9 @@
 -- The checks go before; then what is decided is done.
 -- Assumes nothing.
 use Rattle.std.proofs.Common.{◌≡◌, sym, ap, ◌∙◌, rules}
-use Rattle.initialisation.specs.Hearing.{Call, call, Taken, hearingRefusal}
-use Rattle.initialisation.specs.Searching.{decisionIn}
-use Rattle.initialisation.proofs.HearingLaws.{refusal_is, choosable, sendable, checked, refused-gives, silent-gives, started-gives}
+use Rattle.initialisation.specs.Hearing.{Call, call, Taken, hearing_refusal}
+use Rattle.initialisation.specs.Searching.{decision_in}
+use Rattle.initialisation.proofs.HearingLaws.{refusal_is, choosable, sendable, checked, refused_gives, silent_gives, started_gives}
 use Rattle.initialisation.proofs.Theorems.{hears}
 use Rattle.initialisation.proofs.hearing.hear_bst.Statement.{statement}
 use Rattle.initialisation.proofs.hearing.hear_bst.Tie as tie
@@ -13,7 +13,7 @@ abbrev brought : tie.Start → Call
 brought a =
     call a.args.link a.args.bst a.args.lists a.args.lent.now a.args.tick a.args.lid a.args.own a.args.marks.now a.args.configuration a.args.out.now
 
-refused-is : (c : tie.After-refusal) → c.refusal.result ≡ hearingRefusal (brought c.before.before.before.before.before.before)
+refused-is : (c : tie.After-refusal) → c.refusal.result ≡ hearing_refusal (brought c.before.before.before.before.before.before)
 refused-is c = refusal_is _ c.refusal.ensures c.before.before.elements-sound.ensures c.before.records-in-range.ensures
 
 elements-sound-requires : tie.Need-elements-sound-requires
@@ -29,7 +29,7 @@ refused-requires : tie.Need-refused-requires
 refused-requires c κs = search rules
 
 returns : tie.Need-returns
-returns c = (refused-gives (brought c.before.before.before.before.before.before.before.before) (refused-is c.before.before) c.before.if1.true c.refused.ensures, hears _)
+returns c = (refused_gives (brought c.before.before.before.before.before.before.before.before) (refused-is c.before.before) c.before.if1.true c.refused.ensures, hears _)
 
 cast-time : tie.Need-overflow-cast-time
 cast-time c = record { fits = (choosable (brought c.before.before.before.before.before.before.before.before.before) (sym (refused-is c.before.before.before) ∙ c.before.before.if1.false)).2 }
@@ -54,7 +54,7 @@ send-requires c κs =
     let a = c.before.before.before.before.before.before.before.before.before.before.before.before.before.before in
     let h = sym (refused-is c.before.before.before.before.before.before.before.before) ∙ c.before.before.before.before.before.before.before.if1.false in
     let t : Taken = record { profile = c.before.before.decision.given.0.0; element = c.before.before.decision.given.0.1.0 } in
-    let k = sendable (brought a) t h (sym (ap decisionIn c.before.before.decision.given.1) ∙ c.before.before.before.before.choose.ensures) in
+    let k = sendable (brought a) t h (sym (ap decision_in c.before.before.decision.given.1) ∙ c.before.before.before.before.choose.ensures) in
     (k.served, k.sound, k.ranges, (checked (brought a) h).room)
 
 beacon-of-requires : tie.Need-beacon-of-requires
@@ -64,7 +64,7 @@ started-requires : tie.Need-started-requires
 started-requires c κs = search rules
 
 returns-2 : tie.Need-returns-2
-returns-2 c = (silent-gives (brought c.before.before.before.before.before.before.before.before.before.before.before.before.before.before) (sym (refused-is c.before.before.before.before.before.before.before.before) ∙ c.before.before.before.before.before.before.before.if1.false) (sym (ap decisionIn c.before.before.enum_told.given.1) ∙ c.before.before.before.before.choose.ensures) c.before.waken.ensures c.silent.ensures, hears _)
+returns-2 c = (silent_gives (brought c.before.before.before.before.before.before.before.before.before.before.before.before.before.before) (sym (refused-is c.before.before.before.before.before.before.before.before) ∙ c.before.before.before.before.before.before.before.if1.false) (sym (ap decision_in c.before.before.enum_told.given.1) ∙ c.before.before.before.before.choose.ensures) c.before.waken.ensures c.silent.ensures, hears _)
 
 same_length : tie.Need-same-length
 same_length c = search rules
@@ -74,7 +74,7 @@ returns-3 c =
     let a = c.before.before.before.before.before.before.before.before.before.before.before.before.before.before.before.before.before.before.before in
     let h = sym (refused-is c.before.before.before.before.before.before.before.before.before.before.before.before.before) ∙ c.before.before.before.before.before.before.before.before.before.before.before.before.if1.false in
     let t : Taken = record { profile = c.before.before.before.before.before.before.before.decision.given.0.0; element = c.before.before.before.before.before.before.before.decision.given.0.1.0 } in
-    (started-gives (brought a) h t (sym (ap decisionIn c.before.before.before.before.before.before.before.decision.given.1) ∙ c.before.before.before.before.before.before.before.before.before.choose.ensures) c.before.beacon-of.ensures c.before.before.before.before.send.ensures c.started.ensures, hears _)
+    (started_gives (brought a) h t (sym (ap decision_in c.before.before.before.before.before.before.before.decision.given.1) ∙ c.before.before.before.before.before.before.before.before.before.choose.ensures) c.before.beacon-of.ensures c.before.before.before.before.send.ensures c.started.ensures, hears _)
 
 pub hear-bst-spec : {M : Type 1} → statement M
 hear-bst-spec =

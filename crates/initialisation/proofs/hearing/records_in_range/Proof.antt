@@ -2,7 +2,7 @@
 -- Assumes nothing.
 use Rattle.std.proofs.Common.{sym, ◌∙◌, rules}
 use borrow.Author.Tests.{not-true, not-false}
-use Rattle.initialisation.specs.Hearing.{recordsInRange}
+use Rattle.initialisation.specs.Hearing.{records_in_range}
 use Rattle.initialisation.proofs.hearing.records_in_range.Statement.{statement}
 use Rattle.initialisation.proofs.hearing.records_in_range.Tie as tie
 
@@ -10,21 +10,21 @@ link-in-range-requires : tie.Need-link-in-range-requires
 link-in-range-requires c κs = search rules
 
 returns : tie.Need-returns
-unfolding recordsInRange
+unfolding records_in_range
 returns c = rw (sym c.before.link-in-range.ensures ∙ not-true c.before.link-in-range.result c.if1.true)
 
 well-formed-requires : tie.Need-well-formed-requires
 well-formed-requires c κs = search rules
 
 returns-2 : tie.Need-returns-2
-unfolding recordsInRange
+unfolding records_in_range
 returns-2 c = rw (sym c.before.before.before.before.before.link-in-range.ensures ∙ not-false c.before.before.before.before.before.link-in-range.result c.before.before.before.before.if1.false, sym c.before.well-formed-2.ensures ∙ not-true c.before.well-formed-2.result c.if2.true)
 
 configuration-in-range-requires : tie.Need-configuration-in-range-requires
 configuration-in-range-requires c κs = search rules
 
 returns-3 : tie.Need-returns-3
-unfolding recordsInRange
+unfolding records_in_range
 returns-3 c = c.configuration-in-range.ensures ∙ sym (rw (sym c.before.before.before.before.before.before.link-in-range.ensures ∙ not-false c.before.before.before.before.before.before.link-in-range.result c.before.before.before.before.before.if1.false, sym c.before.before.well-formed-2.ensures ∙ not-false c.before.before.well-formed-2.result c.before.if2.false))
 
 pub records-in-range-spec : {M : Type 1} → statement M

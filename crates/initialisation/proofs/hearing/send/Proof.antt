@@ -1,7 +1,7 @@
 -- The VST passes the writer.
 -- Assumes nothing.
 use Rattle.initialisation.specs.Hearing.{Taken}
-use Rattle.initialisation.proofs.VstLaws.{Sendable, mark-ends, mark-part, sends}
+use Rattle.initialisation.proofs.VstLaws.{Sendable, mark_ends, mark_part, sends}
 use Rattle.std.proofs.Common.{rules}
 use Rattle.initialisation.proofs.hearing.send.Statement.{statement}
 use Rattle.initialisation.proofs.hearing.send.Tie as tie
@@ -34,7 +34,7 @@ part-mark-start : tie.Need-slice-bounds-mark-start
 part-mark-start c = search rules
 
 part-mark-end : tie.Need-slice-bounds-mark-end
-part-mark-end c = mark-ends _ _ c.before.before.before.before.before.before.before.requires.1
+part-mark-end c = mark_ends _ _ c.before.before.before.before.before.before.before.requires.1
 
 no-rows-requires : tie.Need-no-rows-requires
 no-rows-requires c κs = search rules
@@ -53,7 +53,7 @@ returns c =
     let a = c.before.before.before.before.before.before.before.before.before.before.before.before.before.before in
     let t : Taken = record { profile = a.args.profile; element = a.args.element } in
     let can : Sendable a.args.marks.now t a.args.configuration = record { served = a.requires.0; sound = a.requires.1; ranges = a.requires.2 } in
-    sends _ t _ can _ _ a.requires.3 c.before.before.before.before.before.before.before.before.before.vst-of.ensures c.before.before.before.before.before.before.before.before.before.before.entry_of.ensures c.before.before.before.before.before.before.before.before.before.before.before.no-entries.ensures (mark-part _ a.args.element) _ c.octets-of.ensures c.before.before.before.write.ensures.0 c.before.before.before.write.ensures.1
+    sends _ t _ can _ _ a.requires.3 c.before.before.before.before.before.before.before.before.before.vst-of.ensures c.before.before.before.before.before.before.before.before.before.before.entry_of.ensures c.before.before.before.before.before.before.before.before.before.before.before.no_entries_law.ensures (mark_part _ a.args.element) _ c.octets_given.ensures c.before.before.before.write.ensures.0 c.before.before.before.write.ensures.1
 
 pub send-spec : {M : Type 1} → statement M
 send-spec =

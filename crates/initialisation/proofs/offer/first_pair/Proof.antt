@@ -1,15 +1,15 @@
 -- No application before i, and for application i no element before j, makes a pair.
 -- Assumes nothing.
 use Rattle.std.proofs.Common.{◌≡◌, ◌-◌, ◌≤◌, length, take, drop, refl, ◌∙◌, arith, rules}
-use Rattle.initialisation.specs.Offer.{elementOf, pair_of}
+use Rattle.initialisation.specs.Offer.{element_of, pair_of}
 use Rattle.initialisation.proofs.Lists.{long}
 use Rattle.initialisation.proofs.ElementLaws.{list_length}
-use Rattle.initialisation.proofs.OfferLaws.{element-next, pair_found, pair-next, pair-none}
+use Rattle.initialisation.proofs.OfferLaws.{element_next, pair_found, pair_next, pair_none}
 use Rattle.initialisation.proofs.offer.first_pair.Statement.{statement}
 use Rattle.initialisation.proofs.offer.first_pair.Tie as tie
 
 abbrev invariant-loop : tie.invariant-loop
-invariant-loop offered entries own n taken₀ i entry j₀ taken j = (j ≤ n) × (taken ≡ n) × (elementOf entry.aid (take n own.list) ≡ elementOf entry.aid (drop j (take n own.list)))
+invariant-loop offered entries own n taken₀ i entry j₀ taken j = (j ≤ n) × (taken ≡ n) × (element_of entry.aid (take n own.list) ≡ element_of entry.aid (drop j (take n own.list)))
 
 abbrev decreases-loop : tie.decreases-loop
 decreases-loop offered entries own n taken₀ i entry j₀ taken j = n - j
@@ -52,7 +52,7 @@ loop-less : tie.Need-loop-smaller invariant-loop decreases-loop invariant-search
 loop-less c = omega arith
 
 loop-again : tie.Need-loop-preserved invariant-loop decreases-loop invariant-search decreases-search
-loop-again c = let b = c.before.before.before.before.before in let a = b.before.before.before in (omega arith, b.loop.invariant.1, b.loop.invariant.2 ∙ element-next _ _ (there a) _ b.loop.j (omega arith) c.if1.false)
+loop-again c = let b = c.before.before.before.before.before in let a = b.before.before.before in (omega arith, b.loop.invariant.1, b.loop.invariant.2 ∙ element_next _ _ (there a) _ b.loop.j (omega arith) c.if1.false)
 
 add-i : tie.Need-overflow-add-i invariant-loop decreases-loop invariant-search decreases-search
 add-i c = omega arith
@@ -61,10 +61,10 @@ search-less : tie.Need-search-smaller invariant-loop decreases-loop invariant-se
 search-less c = omega arith
 
 search-again : tie.Need-search-preserved invariant-loop decreases-loop invariant-search decreases-search
-search-again c = let b = c.before in let a = b.before.before.before in (omega arith, b.loop.invariant.1, pair-next _ _ (there a) _ _ (all a) a.search.i b.loop.j a.search.invariant.2 (omega arith) b.loop.invariant.2 (omega arith))
+search-again c = let b = c.before in let a = b.before.before.before in (omega arith, b.loop.invariant.1, pair_next _ _ (there a) _ _ (all a) a.search.i b.loop.j a.search.invariant.2 (omega arith) b.loop.invariant.2 (omega arith))
 
 returns : tie.Need-returns invariant-loop decreases-loop invariant-search decreases-search
-returns c = let a = c.before in (pair-none _ _ (there a) _ _ (all a) a.search.i a.search.taken a.search.invariant.2 (omega arith) a.search.invariant.1, omega arith)
+returns c = let a = c.before in (pair_none _ _ (there a) _ _ (all a) a.search.i a.search.taken a.search.invariant.2 (omega arith) a.search.invariant.1, omega arith)
 
 returns-2 : tie.Need-returns-2 invariant-loop decreases-loop invariant-search decreases-search
 returns-2 c = let b = c.before.before.before.before.before in let a = b.before.before.before in (pair_found _ _ (there a) _ _ (all a) a.search.i b.loop.j a.search.invariant.2 (omega arith) b.loop.invariant.2 (omega arith) c.if1.true, omega arith)

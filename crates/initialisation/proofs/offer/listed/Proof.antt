@@ -1,6 +1,6 @@
 -- The profile is read behind the octets before it.
 -- Assumes nothing.
-use Rattle.initialisation.proofs.OfferLaws.{listed-is}
+use Rattle.initialisation.proofs.OfferLaws.{listed_is}
 use Rattle.std.proofs.Common.{rules}
 use Rattle.initialisation.proofs.offer.listed.Statement.{statement}
 use Rattle.initialisation.proofs.offer.listed.Tie as tie
@@ -21,7 +21,7 @@ read-field-requires : tie.Need-read-field-requires
 read-field-requires c κs = search rules
 
 returns : tie.Need-returns
-returns c = listed-is _ _ _ c.before.before.before.requires c.read-field.ensures
+returns c = listed_is _ _ _ c.before.before.before.requires c.read-field.ensures
 
 pub listed-spec : {M : Type 1} → statement M
 listed-spec =

@@ -1,7 +1,7 @@
 -- Each phase is its own case.
 -- Assumes nothing.
 use Rattle.std.proofs.Common.{sym, ap, rules}
-use Rattle.initialisation.specs.Link.{isReadyUnder}
+use Rattle.initialisation.specs.Link.{is_ready_under}
 use Rattle.initialisation.proofs.phases.is_ready_under.Statement.{statement}
 use Rattle.initialisation.proofs.phases.is_ready_under.Tie as tie
 
@@ -21,7 +21,7 @@ returns-2 : tie.Need-returns-2
 returns-2 c = search rules
 
 returns-3 : tie.Need-returns-3
-returns-3 c = sym (ap (isReadyUnder c.before.before.before.args.lid) c.before.phase.given.1)
+returns-3 c = sym (ap (is_ready_under c.before.before.before.args.lid) c.before.phase.given.1)
 
 pub is-ready-under-spec : {M : Type 1} → statement M
 is-ready-under-spec =

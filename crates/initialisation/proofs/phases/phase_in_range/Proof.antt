@@ -1,7 +1,7 @@
 -- Each phase is its own case.
 -- Assumes nothing.
 use Rattle.std.proofs.Common.{sym, ap, ◌∙◌, rules}
-use Rattle.initialisation.specs.Link.{phaseInRange}
+use Rattle.initialisation.specs.Link.{phase_in_range}
 use Rattle.initialisation.proofs.phases.phase_in_range.Statement.{statement}
 use Rattle.initialisation.proofs.phases.phase_in_range.Tie as tie
 
@@ -24,7 +24,7 @@ returns-2 : tie.Need-returns-2
 returns-2 c = search rules
 
 returns-3 : tie.Need-returns-3
-returns-3 c = c.ready-in-range.ensures ∙ sym (ap phaseInRange c.before.before.phase.given.1)
+returns-3 c = c.ready-in-range.ensures ∙ sym (ap phase_in_range c.before.before.phase.given.1)
 
 pub phase-in-range-spec : {M : Type 1} → statement M
 phase-in-range-spec =

@@ -1,5 +1,5 @@
 -- The slot of the pair gives what goes before the payload; the last mark decides between delivering and keeping.
-use Rattle.reassembly.proofs.Accepting.{deliver-asks, keep-asks, deliver-gives, keep-gives}
+use Rattle.reassembly.proofs.Accepting.{deliver_asks, keep_asks, deliver_gives, keep_gives}
 use native.Mathlib.Omega.{arith}
 use borrow.Author.Rules.{rules}
 use Rattle.reassembly.proofs.accept.accept.Statement.{statement}
@@ -16,7 +16,7 @@ choose-requires-2 c κs = search rules
 
 deliver-requires : tie.Need-deliver-requires
 deliver-requires c κs =
-    deliver-asks c.before.before.before.before.before.before.before.before.before.requires c.before.before.before.before.choose.ensures
+    deliver_asks c.before.before.before.before.before.before.before.before.before.requires c.before.before.before.before.choose.ensures
 
 same_length : tie.Need-same-length
 same_length c = search rules
@@ -26,7 +26,7 @@ same-length-2 c = search rules
 
 returns : tie.Need-returns
 returns c =
-    deliver-gives c.before.before.before.before.before.before.before.choose.ensures
+    deliver_gives c.before.before.before.before.before.before.before.choose.ensures
     c.before.before.before.before.before.before.choose2.ensures c.before.before.before.before.before.if1.true
     c.before.before.deliver.ensures
 
@@ -53,7 +53,7 @@ cast-t25 c = omega (arith, c.before.before.before.before.before.before.before.be
 
 keep-requires : tie.Need-keep-requires
 keep-requires c κs =
-    keep-asks c.before.before.before.before.before.before.before.before.before.before.before.before.requires c.before.before.before.before.before.before.before.choose.ensures c.before.before.before.before.before.if1.false
+    keep_asks c.before.before.before.before.before.before.before.before.before.before.before.before.requires c.before.before.before.before.before.before.before.choose.ensures c.before.before.before.before.before.if1.false
     c.before.before.before.before.choose3.ensures
 
 same-length-3 : tie.Need-same-length-3
@@ -61,7 +61,7 @@ same-length-3 c = search rules
 
 returns-2 : tie.Need-returns-2
 returns-2 c =
-    keep-gives c.before.before.before.before.before.before.before.before.before.before.choose.ensures c.before.before.before.before.before.before.before.before.before.choose2.ensures
+    keep_gives c.before.before.before.before.before.before.before.before.before.before.choose.ensures c.before.before.before.before.before.before.before.before.before.choose2.ensures
     c.before.before.before.before.before.before.before.before.if1.false c.before.before.before.before.before.before.before.choose3.ensures
     c.before.before.before.before.before.before.choose32.ensures c.before.before.before.before.before.choose322.ensures
     c.before.before.keep.ensures

@@ -5,7 +5,7 @@ use Prim.Native.Nat.{ℕ, ◌*◌}
 use native.Mathlib.Omega.{arith}
 use lib.ListN.{length, take, drop, length-drop}
 use lib.Seq.{paste, length-take-le}
-use Rattle.reassembly.proofs.Accepting.{two-pastes}
+use Rattle.reassembly.proofs.Accepting.{two_pastes}
 use borrow.Author.Rules.{rules}
 use Rattle.reassembly.proofs.accept.deliver.Statement.{statement}
 use Rattle.reassembly.proofs.accept.deliver.Tie as tie
@@ -35,8 +35,8 @@ returns c =
     let part = drop (512 * a.index) a.store.now in
     let long = length-take-le a.before part (omega (arith, length-drop (512 * a.index) a.store.now)) in
     let front = ap (λ (l : List ℕ). paste l a.before a.payload.now (length a.payload.now)) c.before.before.before.before.before.before.before.copy-held.ensures in
-    let written = c.before.before.before.copy.ensures ∙ front ∙ two-pastes a.output.now (take a.before part) a.payload.now a.before long (omega arith) in
-    record { change-is = rw c.free-slot.ensures; output-is = written }
+    let written = c.before.before.before.copy.ensures ∙ front ∙ two_pastes a.output.now (take a.before part) a.payload.now a.before long (omega arith) in
+    record { change_is = rw c.free-slot.ensures; output_is = written }
 
 pub deliver-spec : {M : Type 1} → statement M
 deliver-spec =

@@ -1,6 +1,6 @@
 -- The part lies in the store, so that as many octets are copied.
 use mathlib.Core.Path.{◌∙◌}
-use Rattle.reassembly.proofs.Accepting.{part-pasted}
+use Rattle.reassembly.proofs.Accepting.{part_pasted}
 use borrow.Author.Rules.{rules}
 use Rattle.reassembly.proofs.copy.copy_held.Statement.{statement}
 use Rattle.reassembly.proofs.copy.copy_held.Tie as tie
@@ -26,7 +26,7 @@ same_length c = search rules
 returns : tie.Need-returns
 returns c =
     let a = c.before.before.before.before.before.before.before.args in
-    c.before.before.copy.ensures ∙ part-pasted a.output.now a.store.now a.at a.held c.before.before.before.before.before.before.before.requires.0
+    c.before.before.copy.ensures ∙ part_pasted a.output.now a.store.now a.at a.held c.before.before.before.before.before.before.before.requires.0
 
 pub copy-held-spec : {M : Type 1} → statement M
 copy-held-spec =

@@ -1,8 +1,8 @@
 -- `changed` goes by the answer.
 -- Assumes nothing.
-use Rattle.reassembly.specs.Engine.{changedFor}
+use Rattle.reassembly.specs.Engine.{changed_for}
 use mathlib.Core.Path.{refl}
-use Rattle.reassembly.proofs.CallLaws.{changed-as}
+use Rattle.reassembly.proofs.CallLaws.{changed_as}
 use borrow.Author.Rules.{rules}
 use Rattle.reassembly.proofs.fragment_call.changed.Statement.{statement}
 use Rattle.reassembly.proofs.fragment_call.changed.Tie as tie
@@ -23,16 +23,16 @@ enum_told : tie.Need-enum-told
 enum_told c = search rules
 
 returns : tie.Need-returns
-unfolding changedFor
-returns c = changed-as _ _ c.before.before.answer.given.1 c.with-slot.ensures
+unfolding changed_for
+returns c = changed_as _ _ c.before.before.answer.given.1 c.with-slot.ensures
 
 returns-2 : tie.Need-returns-2
-unfolding changedFor
-returns-2 c = changed-as _ _ c.before.before.answer2.given.1 c.with-slot2.ensures
+unfolding changed_for
+returns-2 c = changed_as _ _ c.before.before.answer2.given.1 c.with-slot2.ensures
 
 returns-3 : tie.Need-returns-3
-unfolding changedFor
-returns-3 c = changed-as _ _ c.enum_told.given.1 refl
+unfolding changed_for
+returns-3 c = changed_as _ _ c.enum_told.given.1 refl
 
 pub changed-spec : {M : Type 1} → statement M
 changed-spec =

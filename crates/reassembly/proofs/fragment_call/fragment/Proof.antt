@@ -1,8 +1,8 @@
 -- The change, made in the table; demand 3 holds of every run of such calls, and every list of calls has one.
 -- Assumes nothing.
 use Rattle.reassembly.proofs.Theorem.{demanded}
-use Rattle.reassembly.proofs.Existing.{runs-exist}
-use Rattle.reassembly.proofs.CallLaws.{change-gives}
+use Rattle.reassembly.proofs.Existing.{runs_exist}
+use Rattle.reassembly.proofs.CallLaws.{change_gives}
 use borrow.Author.Rules.{rules}
 use Rattle.reassembly.proofs.fragment_call.fragment.Statement.{statement}
 use Rattle.reassembly.proofs.fragment_call.fragment.Tie as tie
@@ -22,7 +22,7 @@ same-length-2 c = search rules
 returns : tie.Need-returns
 returns c =
     let before = c.before.before.before.before.before in
-    (change-gives before.fragment-change.result before.fragment-change.ensures c.changed.ensures, (demanded, runs-exist))
+    (change_gives before.fragment-change.result before.fragment-change.ensures c.changed.ensures, (demanded, runs_exist))
 
 pub fragment-spec : {M : Type 1} → statement M
 fragment-spec =

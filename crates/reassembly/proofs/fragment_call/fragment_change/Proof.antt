@@ -1,7 +1,7 @@
 -- The two lists of checks are one behind the other, and what no check refuses is taken as defined.
 -- Assumes nothing.
 use Rattle.slots.proofs.Tests.{long}
-use Rattle.reassembly.proofs.CallLaws.{Looked, look, refusal-gives, early-gives, octets-in, asks, gives}
+use Rattle.reassembly.proofs.CallLaws.{Looked, look, refusal_gives, early_gives, octets_in_law, asks, gives}
 use borrow.Author.Rules.{rules}
 use Rattle.reassembly.proofs.fragment_call.fragment_change.Statement.{statement}
 use Rattle.reassembly.proofs.fragment_call.fragment_change.Tie as tie
@@ -16,7 +16,7 @@ refusal-requires : tie.Need-refusal-requires
 refusal-requires c κs = search rules
 
 returns : tie.Need-returns
-returns c = early-gives _ c.before.before.before.sound.ensures c.before.before.lsdu-refusal.ensures c.before.if1.true c.refusal.ensures
+returns c = early_gives _ c.before.before.before.sound.ensures c.before.before.lsdu-refusal.ensures c.before.if1.true c.refusal.ensures
 
 fragment-in-requires : tie.Need-fragment-in-requires
 fragment-in-requires c κs = search rules
@@ -47,10 +47,10 @@ looked c =
     c.before.facts-of.ensures c.fragment-refusal.ensures
 
 returns-2 : tie.Need-returns-2
-returns-2 c = refusal-gives _ (looked c.before.before).refusal c.before.if2.true c.refusal2.ensures
+returns-2 c = refusal_gives _ (looked c.before.before).refusal c.before.if2.true c.refusal2.ensures
 
 sub-start : tie.Need-overflow-sub-start
-sub-start c = octets-in (looked c.before.before) c.before.if2.false
+sub-start c = octets_in_law (looked c.before.before) c.before.if2.false
 
 sub-payload : tie.Need-overflow-sub-payload
 sub-payload c = search rules

@@ -1,7 +1,7 @@
 -- Reading the header answers its fields or a refusal, and the definition takes the same two ways.
 use mathlib.Core.Path.{sym, ap, ◌∙◌}
-use Rattle.header.specs.Header.{readAnswer}
-use Rattle.reassembly.proofs.Headed.{fields_in, fields-are, fields-none}
+use Rattle.header.specs.Header.{read_answer}
+use Rattle.reassembly.proofs.Headed.{fields_in, fields_are, fields_none}
 use borrow.Author.Rules.{rules}
 use Rattle.reassembly.proofs.fragment_call.fragment_in.Statement.{statement}
 use Rattle.reassembly.proofs.fragment_call.fragment_in.Tie as tie
@@ -13,28 +13,28 @@ enum-known-header : tie.Need-enum-known-header
 enum-known-header c = search rules
 
 sub-t7 : tie.Need-overflow-sub-t7
-unfolding readAnswer
+unfolding read_answer
 sub-t7 c =
     let s = c.before.before.before.before.before.args.lsdu.now in
-    let read = sym (ap readAnswer c.before.header.given.1) ∙ c.before.before.before.read.ensures.0 in
+    let read = sym (ap read_answer c.before.header.given.1) ∙ c.before.before.before.read.ensures.0 in
     fields_in s _ _ read
 
 enum_told : tie.Need-enum-told
 enum_told c = search rules
 
 returns : tie.Need-returns
-unfolding readAnswer
+unfolding read_answer
 returns c =
     let s = c.before.before.before.before.before.args.lsdu.now in
-    let read = sym (ap readAnswer c.before.header.given.1) ∙ c.before.before.before.read.ensures.0 in
-    fields-are s _ _ read
+    let read = sym (ap read_answer c.before.header.given.1) ∙ c.before.before.before.read.ensures.0 in
+    fields_are s _ _ read
 
 returns-2 : tie.Need-returns-2
-unfolding readAnswer
+unfolding read_answer
 returns-2 c =
     let s = c.before.before.before.before.args.lsdu.now in
-    let read = sym (ap readAnswer c.enum_told.given.1) ∙ c.before.before.read.ensures.0 in
-    fields-none s _ read
+    let read = sym (ap read_answer c.enum_told.given.1) ∙ c.before.before.read.ensures.0 in
+    fields_none s _ read
 
 pub fragment-in-spec : {M : Type 1} → statement M
 fragment-in-spec =

@@ -2,7 +2,7 @@
 use Rattle.std.proofs.Common.{◌≡◌, ◌+◌, ◌-◌, ◌≤◌, length, drop, sym, ap, ◌∙◌, arith, drop_of_length-le, rules}
 use Rattle.slots.specs.Slots.{index_of}
 use Rattle.slots.proofs.Tests.{long}
-use Rattle.slots.proofs.LookupLaws.{index-here, index-there}
+use Rattle.slots.proofs.LookupLaws.{index_here, index_there}
 use Rattle.slots.proofs.lookup.find.Statement.{statement}
 use Rattle.slots.proofs.lookup.find.Tie as tie
 
@@ -31,7 +31,7 @@ returns c =
     let i = c.before.before.before.before.loop.i in
     let n : length slots ≡ 8 = search (rules, long) in
     let same = sym c.before.holds-pair.ensures ∙ c.if1.true in
-    omega (arith, index-here a.lid a.number slots i (omega arith) same)
+    omega (arith, index_here a.lid a.number slots i (omega arith) same)
 
 add-i : tie.Need-overflow-add-i invariant-loop decreases-loop
 add-i c = omega arith
@@ -46,7 +46,7 @@ loop-again c =
     let i = c.before.before.before.before.loop.i in
     let n : length slots ≡ 8 = search (rules, long) in
     let same = sym c.before.holds-pair.ensures ∙ c.if1.false in
-    (omega arith, omega (arith, index-there a.lid a.number slots i (omega arith) same))
+    (omega arith, omega (arith, index_there a.lid a.number slots i (omega arith) same))
 
 returns-2 : tie.Need-returns-2 invariant-loop decreases-loop
 unfolding index_of

@@ -2,7 +2,7 @@
 use Rattle.std.proofs.Common.{◌≡◌, ◌-◌, ◌*◌, ◌≤◌, length, take, ap, ◌∙◌, arith, take_all, rules}
 use Rattle.slots.specs.Slots.{total, held_of}
 use Rattle.slots.proofs.Tests.{long}
-use Rattle.slots.proofs.LookupLaws.{total-none, total-step}
+use Rattle.slots.proofs.LookupLaws.{total_none, total_step}
 use Rattle.slots.proofs.lookup.held_sum.Statement.{statement}
 use Rattle.slots.proofs.lookup.held_sum.Tie as tie
 
@@ -13,7 +13,7 @@ abbrev decreases-loop : tie.decreases-loop
 decreases-loop slots sum₀ i₀ sum i = 8 - i
 
 loop-holds : tie.Need-loop-init invariant-loop decreases-loop
-loop-holds c = (search rules, total-none held_of, search rules)
+loop-holds c = (search rules, total_none held_of, search rules)
 
 mul-slot : tie.Need-overflow-mul-slot invariant-loop decreases-loop
 mul-slot c = search rules
@@ -39,7 +39,7 @@ loop-again c =
     let i = c.before.before.before.loop.i in
     let n : length slots ≡ 8 = search (rules, long) in
     let small = c.before.before.before.before.requires i (omega arith) in
-    let step = total-step slots i (omega arith) in
+    let step = total_step slots i (omega arith) in
     (omega arith, omega (arith, step), omega arith)
 
 returns : tie.Need-returns invariant-loop decreases-loop

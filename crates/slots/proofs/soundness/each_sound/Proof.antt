@@ -1,14 +1,14 @@
 -- The slots before i are sound.
 use Rattle.std.proofs.Common.{◌≡◌, ◌+◌, ◌-◌, ◌≤◌, Bool, ◌&&◌, length, drop, sym, refl, ap, ◌∙◌, arith, drop_of_length-le, rules}
 use borrow.Author.Tests.{not-true, not-false}
-use Rattle.slots.specs.Model.{allSound}
+use Rattle.slots.specs.Model.{all_sound}
 use Rattle.slots.proofs.Tests.{long}
-use Rattle.slots.proofs.SoundLaws.{all-step}
+use Rattle.slots.proofs.SoundLaws.{all_step}
 use Rattle.slots.proofs.soundness.each_sound.Statement.{statement}
 use Rattle.slots.proofs.soundness.each_sound.Tie as tie
 
 abbrev invariant-loop : tie.invariant-loop
-invariant-loop slots i₀ i = (i ≤ 8) × (allSound slots ≡ allSound (drop i slots))
+invariant-loop slots i₀ i = (i ≤ 8) × (all_sound slots ≡ all_sound (drop i slots))
 
 abbrev decreases-loop : tie.decreases-loop
 decreases-loop slots i₀ i = 8 - i
@@ -31,7 +31,7 @@ returns c =
     let at = c.before.before.before.before.loop in
     let n : length slots ≡ 8 = search (rules, long) in
     let s = sym c.before.sound-slot.ensures ∙ not-true c.before.sound-slot.result c.if1.true in
-    sym (at.invariant.1 ∙ all-step slots at.i (omega arith) ∙ ap (λ (b : Bool). b && allSound (drop (at.i + 1) slots)) s)
+    sym (at.invariant.1 ∙ all_step slots at.i (omega arith) ∙ ap (λ (b : Bool). b && all_sound (drop (at.i + 1) slots)) s)
 
 add-i : tie.Need-overflow-add-i invariant-loop decreases-loop
 add-i c = omega arith
@@ -45,14 +45,14 @@ loop-again c =
     let at = c.before.before.before.before.loop in
     let n : length slots ≡ 8 = search (rules, long) in
     let s = sym c.before.sound-slot.ensures ∙ not-false c.before.sound-slot.result c.if1.false in
-    (omega arith, at.invariant.1 ∙ all-step slots at.i (omega arith) ∙ ap (λ (b : Bool). b && allSound (drop (at.i + 1) slots)) s)
+    (omega arith, at.invariant.1 ∙ all_step slots at.i (omega arith) ∙ ap (λ (b : Bool). b && all_sound (drop (at.i + 1) slots)) s)
 
 returns-2 : tie.Need-returns-2 invariant-loop decreases-loop
-unfolding allSound
+unfolding all_sound
 returns-2 c =
     let slots = c.before.before.args.t1 in
     let n : length slots ≡ 8 = search (rules, long) in
-    sym (c.before.loop.invariant.1 ∙ ap allSound (drop_of_length-le slots {i = c.before.loop.i} (omega arith)))
+    sym (c.before.loop.invariant.1 ∙ ap all_sound (drop_of_length-le slots {i = c.before.loop.i} (omega arith)))
 
 pub each-sound-spec : {M : Type 1} → statement M
 each-sound-spec =

@@ -3,7 +3,7 @@ use Rattle.std.proofs.Common.{◌≡◌, ◌+◌, ◌-◌, ◌<◌, ◌≤◌, B
 use Rattle.slots.specs.Slots.{free}
 use Rattle.slots.specs.Model.{alone, distinct}
 use Rattle.slots.proofs.Tests.{long}
-use Rattle.slots.proofs.SoundLaws.{distinct-step, alone-step, alone-none}
+use Rattle.slots.proofs.SoundLaws.{distinct_step, alone_step, alone_none}
 use Rattle.slots.proofs.soundness.pairs_differ.Statement.{statement}
 use Rattle.slots.proofs.soundness.pairs_differ.Tie as tie
 
@@ -51,8 +51,8 @@ returns c =
     let at = c.before.before.before.before.loop2 in
     let n : length slots ≡ 8 = search (rules, long) in
     let s = sym c.before.share-pair.ensures ∙ c.if1.true in
-    let none = at.invariant.3 ∙ alone-step slots at.j (omega arith) slot ∙ ap (λ (b : Bool). not b && alone slot (drop (at.j + 1) slots)) s in
-    sym (at.invariant.2 ∙ distinct-step slots i (omega arith) ∙ ap (λ (b : Bool). b && distinct (drop (i + 1) slots)) none)
+    let none = at.invariant.3 ∙ alone_step slots at.j (omega arith) slot ∙ ap (λ (b : Bool). not b && alone slot (drop (at.j + 1) slots)) s in
+    sym (at.invariant.2 ∙ distinct_step slots i (omega arith) ∙ ap (λ (b : Bool). b && distinct (drop (i + 1) slots)) none)
 
 add-j-2 : tie.Need-overflow-add-j-2 invariant-loop2 decreases-loop2 invariant-loop decreases-loop
 add-j-2 c = omega arith
@@ -67,7 +67,7 @@ loop2-again c =
     let at = c.before.before.before.before.loop2 in
     let n : length slots ≡ 8 = search (rules, long) in
     let s = sym c.before.share-pair.ensures ∙ c.if1.false in
-    (omega arith, omega arith, at.invariant.2, at.invariant.3 ∙ alone-step slots at.j (omega arith) slot ∙ ap (λ (b : Bool). not b && alone slot (drop (at.j + 1) slots)) s)
+    (omega arith, omega arith, at.invariant.2, at.invariant.3 ∙ alone_step slots at.j (omega arith) slot ∙ ap (λ (b : Bool). not b && alone slot (drop (at.j + 1) slots)) s)
 
 add-i : tie.Need-overflow-add-i invariant-loop2 decreases-loop2 invariant-loop decreases-loop
 add-i c = omega arith
@@ -82,8 +82,8 @@ loop-again c =
     let slot = get_or slots i free in
     let at = c.before.loop2 in
     let n : length slots ≡ 8 = search (rules, long) in
-    let lone = at.invariant.3 ∙ alone-none slot slots at.j (omega arith) in
-    (omega arith, at.invariant.2 ∙ distinct-step slots i (omega arith) ∙ ap (λ (b : Bool). b && distinct (drop (i + 1) slots)) lone)
+    let lone = at.invariant.3 ∙ alone_none slot slots at.j (omega arith) in
+    (omega arith, at.invariant.2 ∙ distinct_step slots i (omega arith) ∙ ap (λ (b : Bool). b && distinct (drop (i + 1) slots)) lone)
 
 returns-2 : tie.Need-returns-2 invariant-loop2 decreases-loop2 invariant-loop decreases-loop
 unfolding distinct

@@ -13,7 +13,7 @@ all-zero-requires : tie.Need-all-zero-requires
 all-zero-requires c κs = search rules
 
 returns-2 : tie.Need-returns-2
-returns-2 c = c.all-zero.ensures ∙ rw (eq-eqb _ _ c.before.if1.false)
+returns-2 c = c.all_zero_law.ensures ∙ rw (eq-eqb _ _ c.before.if1.false)
 
 pub sound-slot-spec : {M : Type 1} → statement M
 sound-slot-spec = tie.close (tie.spec busy-sound-requires returns all-zero-requires returns-2)

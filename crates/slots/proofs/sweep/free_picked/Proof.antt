@@ -1,21 +1,21 @@
 -- Before each turn the slots below i are swept, their octets counted, and the others as they were.
 use Rattle.std.proofs.Common.{◌≡◌, ◌+◌, ◌-◌, ◌*◌, ◌<◌, ◌≤◌, ◌++◌, length, take, drop, set, sym, ap, ◌∙◌, ⊎_elim, append-nil, arith, drop_of_length-le, take_all, rules}
 use Rattle.slots.specs.declared.Slot.{Slot}
-use Rattle.slots.specs.Sweep.{freed, droppedBy}
+use Rattle.slots.specs.Sweep.{freed, dropped_by}
 use Rattle.slots.specs.Model.{picks}
 use Rattle.slots.proofs.Tests.{long}
-use Rattle.slots.proofs.SweepLaws.{freed-none, dropped-none, freed-yes, freed-no, dropped-yes, dropped-no}
+use Rattle.slots.proofs.SweepLaws.{freed_none, dropped_none, freed_yes, freed_no, dropped_yes, dropped_no}
 use Rattle.slots.proofs.sweep.free_picked.Statement.{statement}
 use Rattle.slots.proofs.sweep.free_picked.Tie as tie
 
 abbrev invariant-loop : tie.invariant-loop
-invariant-loop sweep slots left₀ dropped₀ i₀ left dropped i = (i ≤ 8) × (left ≡ freed (picks sweep) (take i slots) ++ drop i slots) × (dropped ≡ droppedBy (picks sweep) (take i slots)) × (dropped ≤ 512 * i)
+invariant-loop sweep slots left₀ dropped₀ i₀ left dropped i = (i ≤ 8) × (left ≡ freed (picks sweep) (take i slots) ++ drop i slots) × (dropped ≡ dropped_by (picks sweep) (take i slots)) × (dropped ≤ 512 * i)
 
 abbrev decreases-loop : tie.decreases-loop
 decreases-loop sweep slots left₀ dropped₀ i₀ left dropped i = 8 - i
 
 loop-holds : tie.Need-loop-init invariant-loop decreases-loop
-loop-holds c = (search rules, freed-none (picks c.args.sweep) c.args.t1, dropped-none (picks c.args.sweep), search rules)
+loop-holds c = (search rules, freed_none (picks c.args.sweep) c.args.t1, dropped_none (picks c.args.sweep), search rules)
 
 mul-slot : tie.Need-overflow-mul-slot invariant-loop decreases-loop
 mul-slot c = search rules
@@ -59,10 +59,10 @@ loop-again c =
     ⊎_elim
     (λ w.
     let t = sym c.before.picked.ensures ∙ w.0.taken in
-    (omega arith, w.3 ∙ ap (λ (s : Slot). set at.left at.i s) w.1.ensures ∙ freed-yes f slots at.i h at.left t at.invariant.1, w.4 ∙ dropped-yes f slots at.i h at.dropped t at.invariant.2, omega (arith, w.4)))
+    (omega arith, w.3 ∙ ap (λ (s : Slot). set at.left at.i s) w.1.ensures ∙ freed_yes f slots at.i h at.left t at.invariant.1, w.4 ∙ dropped_yes f slots at.i h at.dropped t at.invariant.2, omega (arith, w.4)))
     (λ w.
     let t = sym c.before.picked.ensures ∙ w.0.left in
-    (omega arith, w.1 ∙ freed-no f slots at.i h at.left t at.invariant.1, w.2 ∙ dropped-no f slots at.i h at.dropped t at.invariant.2, omega (arith, w.2)))
+    (omega arith, w.1 ∙ freed_no f slots at.i h at.left t at.invariant.1, w.2 ∙ dropped_no f slots at.i h at.dropped t at.invariant.2, omega (arith, w.2)))
     c.if1.branch
 
 returns : tie.Need-returns invariant-loop decreases-loop
@@ -72,7 +72,7 @@ returns c =
     let f = picks c.before.before.args.sweep in
     let n : length slots ≡ 8 = search (rules, long) in
     let e : take at.i slots ≡ slots = take_all at.i slots (omega arith) in
-    (at.invariant.1 ∙ rw (drop_of_length-le slots {i = at.i} (omega arith), e) (append-nil (freed f slots)), at.invariant.2 ∙ ap (droppedBy f) e)
+    (at.invariant.1 ∙ rw (drop_of_length-le slots {i = at.i} (omega arith), e) (append-nil (freed f slots)), at.invariant.2 ∙ ap (dropped_by f) e)
 
 pub free-picked-spec : {M : Type 1} → statement M
 free-picked-spec =

@@ -2,7 +2,7 @@
 use Rattle.std.proofs.Common.{◌≡◌, ℕ, ◌+◌, ◌≤◌, length, drop, sym, ap, ◌∙◌, add-zero, arith, drop_of_length-le, rules, eq-eqb, ne_eqb}
 use Rattle.slots.specs.Slots.{word_of}
 use Rattle.slots.proofs.Tests.{long}
-use Rattle.slots.proofs.WordLaws.{word-turn, word_byte}
+use Rattle.slots.proofs.WordLaws.{word_turn, word_byte}
 use Rattle.slots.proofs.word.word.Statement.{statement}
 use Rattle.slots.proofs.word.word.Tie as tie
 
@@ -48,7 +48,7 @@ loop-again c =
     let slots = c.before.before.before.before.before.args.t1 in
     let at = c.before.before.before.before.loop in
     let n : length slots ≡ 8 = search (rules, long) in
-    (omega arith, word-turn slots at.w at.i 1 (omega arith) (omega arith) (rw (ne_eqb _ _ c.if1.true)) at.invariant.1)
+    (omega arith, word_turn slots at.w at.i 1 (omega arith) (omega arith) (rw (ne_eqb _ _ c.if1.true)) at.invariant.1)
 
 loop-less-2 : tie.Need-loop-smaller-2 invariant-loop decreases-loop
 loop-less-2 c = omega arith
@@ -58,7 +58,7 @@ loop-again-2 c =
     let slots = c.before.before.before.before.before.args.t1 in
     let at = c.before.before.before.before.loop in
     let n : length slots ≡ 8 = search (rules, long) in
-    (omega arith, sym (add-zero (at.w + at.w)) ∙ word-turn slots at.w at.i 0 (omega arith) (omega arith) (rw (eq-eqb _ _ c.if1.false)) at.invariant.1)
+    (omega arith, sym (add-zero (at.w + at.w)) ∙ word_turn slots at.w at.i 0 (omega arith) (omega arith) (rw (eq-eqb _ _ c.if1.false)) at.invariant.1)
 
 returns : tie.Need-returns invariant-loop decreases-loop
 returns c =

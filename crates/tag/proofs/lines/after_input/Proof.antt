@@ -1,6 +1,6 @@
 -- `tag::lines::after_input` is safe and ends: each turn starts behind the line feed of the one before. Assumes nothing.
 use Rattle.std.proofs.Common.{◌≡◌, ◌-◌, ◌≤◌, length, refl, arith}
-use Rattle.bench_lines.proofs.Marks.{end-behind, end-inside}
+use Rattle.bench_lines.proofs.Marks.{end_behind, end_inside}
 use Rattle.tag.proofs.lines.after_input.Statement.{statement}
 use Rattle.tag.proofs.lines.after_input.Tie as tie
 
@@ -17,13 +17,13 @@ line-end-requires : tie.Need-line-end-requires invariant-loop decreases-loop
 line-end-requires c κs = tt
 
 sub-keep-part : tie.Need-overflow-sub-keep-part invariant-loop decreases-loop
-sub-keep-part c = omega (arith, end-behind _ _ c.line-end.ensures, end-inside _ _ c.line-end.ensures c.before.before.loop.invariant.0)
+sub-keep-part c = omega (arith, end_behind _ _ c.line-end.ensures, end_inside _ _ c.line-end.ensures c.before.before.loop.invariant.0)
 
 part-keep-part-start : tie.Need-slice-bounds-keep-part-start invariant-loop decreases-loop
-part-keep-part-start c = omega (arith, end-behind _ _ c.line-end.ensures, end-inside _ _ c.line-end.ensures c.before.before.loop.invariant.0)
+part-keep-part-start c = omega (arith, end_behind _ _ c.line-end.ensures, end_inside _ _ c.line-end.ensures c.before.before.loop.invariant.0)
 
 part-keep-part-end : tie.Need-slice-bounds-keep-part-end invariant-loop decreases-loop
-part-keep-part-end c = omega (arith, end-behind _ _ c.line-end.ensures, end-inside _ _ c.line-end.ensures c.before.before.loop.invariant.0)
+part-keep-part-end c = omega (arith, end_behind _ _ c.line-end.ensures, end_inside _ _ c.line-end.ensures c.before.before.loop.invariant.0)
 
 keep-part-requires : tie.Need-keep-part-requires invariant-loop decreases-loop
 keep-part-requires c κs = tt
@@ -60,7 +60,7 @@ add_at c =
     let c6 = c.before.before.before.before.before.before in
     let c8 = c6.before.before in
     let c18 = c8.before.before.before.before.before.before.before.before.before.before in
-    omega (arith, c.if1.false, c18.well-formed.1.0, end-behind _ _ c6.line-end.ensures, end-inside _ _ c6.line-end.ensures c8.loop.invariant.0)
+    omega (arith, c.if1.false, c18.well-formed.1.0, end_behind _ _ c6.line-end.ensures, end_inside _ _ c6.line-end.ensures c8.loop.invariant.0)
 
 front-requires : tie.Need-front-requires invariant-loop decreases-loop
 front-requires c κs = tt
@@ -73,7 +73,7 @@ loop-less c =
     let c24 = c.before.before.before.before.before.before.before.before.before.before.before.before.before.before.before.before.before.before.before.before.before.before.before.before in
     let c30 = c24.before.before.before.before.before.before in
     let c32 = c30.before.before in
-    omega (arith, c24.if1.false, end-behind _ _ c30.line-end.ensures, end-inside _ _ c30.line-end.ensures c32.loop.invariant.0)
+    omega (arith, c24.if1.false, end_behind _ _ c30.line-end.ensures, end_inside _ _ c30.line-end.ensures c32.loop.invariant.0)
 
 loop-again : tie.Need-loop-preserved invariant-loop decreases-loop
 loop-again c =
@@ -88,7 +88,7 @@ loop-again c =
     let c26 = c24.before.before in
     let c30 = c26.before.before.before.before in
     let c32 = c30.before.before in (
-      omega (arith, c24.if1.false, end-behind _ _ c30.line-end.ensures, end-inside _ _ c30.line-end.ensures c32.loop.invariant.0),
+      omega (arith, c24.if1.false, end_behind _ _ c30.line-end.ensures, end_inside _ _ c30.line-end.ensures c32.loop.invariant.0),
       omega (arith, c32.loop.invariant.1, c26.line.given),
       omega (arith, c32.loop.invariant.2, c13.credentials.given),
       omega (arith, c32.loop.invariant.3, c11.factory.given),

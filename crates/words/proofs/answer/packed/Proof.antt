@@ -1,8 +1,8 @@
 -- `words::answer::packed` meets its contract. Assumes nothing.
 use native.Mathlib.Omega.{arith}
 use borrow.Author.Rules.{rules}
-use Rattle.words.specs.Answer.{answerNumber}
-use Rattle.words.proofs.Answers.{unpacking-answer}
+use Rattle.words.specs.Answer.{answer_number}
+use Rattle.words.proofs.Answers.{unpacking_answer}
 use Rattle.words.proofs.answer.packed.Statement.{statement}
 use Rattle.words.proofs.answer.packed.Tie as tie
 
@@ -25,8 +25,8 @@ add-result : tie.Need-overflow-add-result
 add-result c = search rules
 
 returns : tie.Need-returns
-unfolding answerNumber
-returns c = (omega arith, unpacking-answer)
+unfolding answer_number
+returns c = (omega arith, unpacking_answer)
 
 pub packed-spec : {M : Type 1} → statement M
 packed-spec = tie.close (tie.spec mul_low add_low mul-high add-high mul-result add-result returns)

@@ -3,7 +3,7 @@ use mathlib.Core.Path.{◌∙◌}
 use native.Mathlib.Omega.{arith}
 use borrow.Author.Rules.{rules}
 use Prim.Native.Nat.{◌-◌, ◌≤◌}
-use Rattle.words.proofs.RowLaws.{RowsIn, rows-first, rows_next, rows_all, left_over, too_many, rows-read, unpacking-rows, other-rows-length, large-id, other-area}
+use Rattle.words.proofs.RowLaws.{RowsIn, rows_first, rows_next, rows_all, left_over, too_many, rows_read, unpacking_rows, other_rows_length, large_id, other_area}
 use Rattle.words.proofs.directory_words.directory_in.Statement.{statement}
 use Rattle.words.proofs.directory_words.directory_in.Tie as tie
 
@@ -17,20 +17,20 @@ not-sound-requires : tie.Need-not-sound-requires invariant-loop decreases-loop
 not-sound-requires c κs = search rules
 
 returns : tie.Need-returns invariant-loop decreases-loop
-returns c = (c.not_sound.ensures ∙ left_over _ c.before.if1.true, (unpacking-rows, (other-rows-length, (large-id, other-area))))
+returns c = (c.not_sound.ensures ∙ left_over _ c.before.if1.true, (unpacking_rows, (other_rows_length, (large_id, other_area))))
 
 not-sound-requires-2 : tie.Need-not-sound-requires-2 invariant-loop decreases-loop
 not-sound-requires-2 c κs = search rules
 
 returns-2 : tie.Need-returns-2 invariant-loop decreases-loop
 returns-2 c =
-    (c.not-sound2.ensures ∙ too_many _ c.before.before.if1.false c.before.if2.true, (unpacking-rows, (other-rows-length, (large-id, other-area))))
+    (c.not-sound2.ensures ∙ too_many _ c.before.before.if1.false c.before.if2.true, (unpacking_rows, (other_rows_length, (large_id, other_area))))
 
 empty-requires : tie.Need-empty-requires invariant-loop decreases-loop
 empty-requires c κs = search rules
 
 loop-holds : tie.Need-loop-init invariant-loop decreases-loop
-loop-holds c = (search rules, rows-first _ _ c.empty.ensures)
+loop-holds c = (search rules, rows_first _ _ c.empty.ensures)
 
 row-in-requires : tie.Need-row-in-requires invariant-loop decreases-loop
 row-in-requires c κs = search rules
@@ -56,7 +56,7 @@ returns-3 : tie.Need-returns-3 invariant-loop decreases-loop
 returns-3 c =
     let b = c.before.before.before in
     let all = rows_all _ _ c.before.loop.d.rows c.before.loop.i (omega arith) c.before.loop.invariant.1 in
-    (rows-read _ b.before.if1.false b.if2.false all, (unpacking-rows, (other-rows-length, (large-id, other-area))))
+    (rows_read _ b.before.if1.false b.if2.false all, (unpacking_rows, (other_rows_length, (large_id, other_area))))
 
 pub directory-in-spec : {M : Type 1} → statement M
 directory-in-spec =

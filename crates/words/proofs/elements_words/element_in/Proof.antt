@@ -1,5 +1,5 @@
 -- `words::elements_words::element_in` meets its contract, word by word. Assumes nothing.
-use Rattle.words.specs.ElementWords.{elementAt}
+use Rattle.words.specs.ElementWords.{element_at}
 use borrow.Author.Rules.{rules}
 use Rattle.words.proofs.elements_words.element_in.Statement.{statement}
 use Rattle.words.proofs.elements_words.element_in.Tie as tie
@@ -35,7 +35,7 @@ narrow-requires-3 : tie.Need-narrow-requires-3
 narrow-requires-3 c κs = search rules
 
 returns : tie.Need-returns
-unfolding elementAt
+unfolding element_at
 returns c = cc
 
 pub element-in-spec : {M : Type 1} → statement M

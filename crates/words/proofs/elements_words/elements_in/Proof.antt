@@ -1,7 +1,7 @@
 -- `words::elements_words::elements_in` meets its contract: eight elements, four words apart. Assumes nothing.
-use Rattle.words.specs.Items.{itemsFrom}
-use Rattle.words.specs.ElementWords.{elementsIn}
-use Rattle.words.proofs.ElementLaws.{unpacking-elements, other-elements-length, large-element}
+use Rattle.words.specs.Items.{items_from}
+use Rattle.words.specs.ElementWords.{elements_in}
+use Rattle.words.proofs.ElementLaws.{unpacking_elements, other_elements_length, large_element}
 use borrow.Author.Rules.{rules}
 use Rattle.words.proofs.elements_words.elements_in.Statement.{statement}
 use Rattle.words.proofs.elements_words.elements_in.Tie as tie
@@ -34,8 +34,8 @@ element-in-requires-8 : tie.Need-element-in-requires-8
 element-in-requires-8 c κs = search rules
 
 returns : tie.Need-returns
-unfolding itemsFrom elementsIn
-returns c = (cc, (unpacking-elements, (other-elements-length, large-element)))
+unfolding items_from elements_in
+returns c = (cc, (unpacking_elements, (other_elements_length, large_element)))
 
 pub elements-in-spec : {M : Type 1} → statement M
 elements-in-spec =

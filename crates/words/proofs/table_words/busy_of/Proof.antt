@@ -6,14 +6,14 @@ use native.Mathlib.Nat.{add-zero}
 use borrow.Author.Tests.{eq-eqb, ne_eqb}
 use lib.ListN.{drop}
 use Rattle.slots.specs.Slots.{word_of}
-use Rattle.words.specs.TableWords.{slotsIn}
-use Rattle.words.proofs.TableChange.{count_none, count_turn, count-byte}
+use Rattle.words.specs.TableWords.{slots_in}
+use Rattle.words.proofs.TableChange.{count_none, count_turn, count_byte}
 use borrow.Author.Rules.{rules}
 use Rattle.words.proofs.table_words.busy_of.Statement.{statement}
 use Rattle.words.proofs.table_words.busy_of.Tie as tie
 
 abbrev invariant-loop : tie.invariant-loop
-invariant-loop words w₀ i₀ w i = (i ≤ 8) × (w ≡ word_of (drop i (slotsIn words)))
+invariant-loop words w₀ i₀ w i = (i ≤ 8) × (w ≡ word_of (drop i (slots_in words)))
 
 abbrev decreases-loop : tie.decreases-loop
 decreases-loop words w₀ i₀ w i = i
@@ -37,10 +37,10 @@ shared-slice-read-next : tie.Need-shared-slice-read-next invariant-loop decrease
 shared-slice-read-next c = search rules
 
 add-w : tie.Need-overflow-add-w invariant-loop decreases-loop
-add-w c = omega (arith, count-byte c.before.before.before.args.words.now c.before.before.loop.i)
+add-w c = omega (arith, count_byte c.before.before.before.args.words.now c.before.before.loop.i)
 
 add-w-2 : tie.Need-overflow-add-w-2 invariant-loop decreases-loop
-add-w-2 c = omega (arith, count-byte c.before.before.before.before.args.words.now c.before.before.before.loop.i)
+add-w-2 c = omega (arith, count_byte c.before.before.before.before.args.words.now c.before.before.before.loop.i)
 
 loop-less : tie.Need-loop-smaller invariant-loop decreases-loop
 loop-less c = omega arith
@@ -63,7 +63,7 @@ loop-again-2 c =
 returns : tie.Need-returns invariant-loop decreases-loop
 returns c =
     let e : c.before.loop.i ≡ 0 = omega arith in
-    c.before.loop.invariant.1 ∙ ap (λ (k : ℕ). word_of (drop k (slotsIn c.before.before.args.words.now))) e
+    c.before.loop.invariant.1 ∙ ap (λ (k : ℕ). word_of (drop k (slots_in c.before.before.args.words.now))) e
 
 pub busy-of-spec : {M : Type 1} → statement M
 busy-of-spec =

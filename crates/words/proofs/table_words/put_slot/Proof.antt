@@ -1,6 +1,6 @@
 -- `words::table_words::put_slot` meets its contract: five stores, one behind the other. Assumes nothing.
-use Rattle.words.specs.TableWords.{slotPut}
-use Rattle.words.proofs.Stores.{five-stores}
+use Rattle.words.specs.TableWords.{slot_put}
+use Rattle.words.proofs.Stores.{five_stores}
 use borrow.Author.Rules.{rules}
 use Rattle.words.proofs.table_words.put_slot.Statement.{statement}
 use Rattle.words.proofs.table_words.put_slot.Tie as tie
@@ -36,7 +36,7 @@ same_length : tie.Need-same-length
 same_length c = search rules
 
 returns : tie.Need-returns
-unfolding slotPut
+unfolding slot_put
 returns c =
     let c6 = c.before.before.before.before.before.before in
     let c10 = c6.before.before.before.before in
@@ -44,7 +44,7 @@ returns c =
     let c18 = c14.before.before.before.before in
     let start = c18.before.before.before in
     let slot = start.args.slot in
-    five-stores start.args.words.now _ _ _ _ _ start.args.at slot.lid slot.number slot.next slot.held slot.tick
+    five_stores start.args.words.now _ _ _ _ _ start.args.at slot.lid slot.number slot.next slot.held slot.tick
     c18.put.ensures c14.put2.ensures c10.put3.ensures c6.put4.ensures c.before.before.put5.ensures
 
 pub put-slot-spec : {M : Type 1} → statement M

@@ -4,8 +4,8 @@ use mathlib.Core.List.{[], ◌∷◌}
 use Prim.Native.Nat.{◌-◌, ◌^◌}
 use Rattle.slots.specs.declared.Slot.{Slot}
 use Rattle.slots.specs.declared.Table.{Table}
-use Rattle.words.specs.TableWords.{slotsIn}
-use Rattle.words.proofs.TableLaws.{held_in, none_in, unpacking-table, other-table-length, first-table}
+use Rattle.words.specs.TableWords.{slots_in}
+use Rattle.words.proofs.TableLaws.{held_in, none_in, unpacking_table, other_table_length, first_table}
 use borrow.Author.Rules.{rules}
 use Rattle.words.proofs.table_words.table_in.Statement.{statement}
 use Rattle.words.proofs.table_words.table_in.Tie as tie
@@ -17,7 +17,7 @@ returns : tie.Need-returns
 returns c = (
   none_in _ c.before.before.before.args.words.now c.before.if1.true
       (ap (λ (s : Slot). the (record { busy = 2 ^ 32 - 1; slots = s ∷ s ∷ s ∷ s ∷ s ∷ s ∷ s ∷ s ∷ [] })) c.free-slot.ensures),
-  (unpacking-table, (other-table-length, first-table)),
+  (unpacking_table, (other_table_length, first_table)),
 )
   where
     the : Table → Table
@@ -51,7 +51,7 @@ slot-in-requires-8 : tie.Need-slot-in-requires-8
 slot-in-requires-8 c κs = search rules
 
 returns-2 : tie.Need-returns-2
-unfolding slotsIn
+unfolding slots_in
 returns-2 c =
     let c4 = c.before.before.before.before in
     let c8 = c4.before.before.before.before in
@@ -59,7 +59,7 @@ returns-2 c =
     (λ i. record {
       busy = c8.word.ensures i;
       slots =
-          c4.before.before.before.slot-in.ensures i
+          c4.before.before.before.slot_within.ensures i
           ∷ c4.before.before.slot-in2.ensures i
           ∷ c4.before.slot-in3.ensures i
           ∷ c4.slot-in4.ensures i
@@ -69,7 +69,7 @@ returns-2 c =
           ∷ c.slot-in8.ensures i
           ∷ [];
     }) in
-    (held, (unpacking-table, (other-table-length, first-table)))
+    (held, (unpacking_table, (other_table_length, first_table)))
 
 pub table-in-spec : {M : Type 1} → statement M
 table-in-spec =

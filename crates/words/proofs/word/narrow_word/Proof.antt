@@ -1,18 +1,18 @@
 -- `words::word::narrow_word` meets its contract. Assumes nothing.
 use native.Mathlib.Omega.{arith}
 use borrow.Author.Rules.{rules}
-use Rattle.words.proofs.Words.{narrow-small, narrow-large}
+use Rattle.words.proofs.Words.{narrow_small, narrow_large}
 use Rattle.words.proofs.word.narrow_word.Statement.{statement}
 use Rattle.words.proofs.word.narrow_word.Tie as tie
 
 returns : tie.Need-returns
-returns c = narrow-large 32 c.before.args.x (omega arith)
+returns c = narrow_large 32 c.before.args.x (omega arith)
 
 cast-result : tie.Need-overflow-cast-result
 cast-result c = search rules
 
 returns-2 : tie.Need-returns-2
-returns-2 c = narrow-small 32 c.before.args.x (omega arith)
+returns-2 c = narrow_small 32 c.before.args.x (omega arith)
 
 pub narrow-word-spec : {M : Type 1} → statement M
 narrow-word-spec = tie.close (tie.spec cast-result returns returns-2)
