@@ -24,7 +24,7 @@ pub fn announces(kind: u64, n: u64) -> u64
 }
 
 // How many rows are still to come in the list whose containers stand at depth 1, 2, .. 5.
-#[derive(Drop)]
+#[derive(Clone, Copy)]
 pub struct Due {
     pub d1: u64,
     pub d2: u64,

@@ -1,6 +1,9 @@
 // The records of the ten messages (01, "Messages"; ISO 15628, Annex A), and 01's limits. A record holds numbers. An octet string or a list of ids is a part
 // of the lent octets: the bit place where it starts, and how many octets or ids it has. Absent fields and unused rows are 0. Beside them stand the counters
 // of attribute rows that the reader and the writer share.
+
+#![tactic(auto)]
+
 mod due;
 mod limits;
 mod lists;

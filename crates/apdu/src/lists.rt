@@ -5,7 +5,7 @@ ghost use Rattle.apdu.specs.Tables.{lesser};
 ghost use Rattle.apdu.specs.Values.{empty_row, empty_entry, entry_rows};
 
 // An attribute and its container: n is a string's length, an EID, or a count; a list of n rows is followed by its rows.
-#[derive(Drop)]
+#[derive(Clone, Copy)]
 pub struct Row {
     pub id: u8,
     pub kind: u8,
@@ -15,7 +15,7 @@ pub struct Row {
 
 // An application entry; kind, n and start are its parameter, and rows tells how many of the message's rows belong to it, nested ones too. The entries of
 // a message have at most 32 rows together, and 23 is given above; one without a parameter has none.
-#[derive(Drop)]
+#[derive(Clone, Copy)]
 pub struct Entry {
     pub has_eid: bool,
     pub has_parameter: bool,
@@ -48,7 +48,7 @@ pub fn clamped(first: usize, count: usize) -> usize
 }
 
 // The entries and rows of a message, in its order; unused ones are 0.
-#[derive(Drop)]
+#[derive(Clone, Copy)]
 pub struct Lists {
     pub entries: [Entry; 32],
     pub rows: [Row; 32],

@@ -14,7 +14,7 @@ use crate::rows::{Rows, fill};
 use apdu::{Due, Entry, Lists, announces, no_entries, no_rows};
 
 // An entry up to its rows, of which `due` are announced.
-#[derive(Drop)]
+#[derive(Clone, Copy)]
 pub struct EntryHead {
     pub cursor: Cursor,
     pub entry: Entry,
@@ -45,7 +45,7 @@ pub(crate) fn entry_head(s: &[u8], c: Cursor) -> EntryHead
     EntryHead { cursor, entry, due }
 }
 
-#[derive(Drop)]
+#[derive(Clone, Copy)]
 pub struct EntryRead {
     pub entry: Entry,
     pub rows: Rows,

@@ -8,7 +8,7 @@ use crate::cursor::Cursor;
 use apdu::{Due, Row, after_row, announces, level};
 
 // A container without its rows: its kind, its length, number or count, and where its octets or ids start.
-#[derive(Drop)]
+#[derive(Clone, Copy)]
 pub struct Head {
     pub kind: u64,
     pub n: u64,
@@ -72,7 +72,7 @@ pub(crate) fn place(start: usize) -> u32
     (start % 4294967296) as u32
 }
 
-#[derive(Drop)]
+#[derive(Clone, Copy)]
 pub struct RowRead {
     pub cursor: Cursor,
     pub due: Due,

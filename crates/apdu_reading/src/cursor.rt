@@ -5,7 +5,7 @@ ghost use Rattle.apdu_reading.specs.Cursor.{cursor, judged_by, piece_of, spent, 
 // at: the next bit; begun: where the component begins that was read last; room: how many attribute rows may still be announced; fault: 0, or the
 // refusal's number, with its position; value: what the bits read last say; start: where the string or list read last starts.
 // In this order no two neighbours are only copied: two that are get copied as one block, which waits for both to be stored.
-#[derive(Drop)]
+#[derive(Clone, Copy)]
 pub struct Cursor {
     pub at: usize,
     pub value: u64,

@@ -8,7 +8,7 @@ use crate::component::choice;
 use crate::cursor::Cursor;
 use apdu::{Lists, Message, no_entries, no_rows};
 
-#[derive(Drop)]
+#[derive(Clone, Copy)]
 pub enum Answer {
     Message(Message),
     // A refusal's number and position.
@@ -16,7 +16,7 @@ pub enum Answer {
 }
 
 // What was read: the answer, the place behind the message, and the entries and rows that stand beside it.
-#[derive(Drop)]
+#[derive(Clone, Copy)]
 pub struct Reading {
     pub answer: Answer,
     pub end: usize,

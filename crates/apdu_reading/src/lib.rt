@@ -1,5 +1,8 @@
 // Reading a message (01, "Messages"): left to right, and the first fault decides. The answer is the record of one of the ten kinds, with its entries and
 // rows beside it, or a refusal's number and position.
+
+#![tactic(auto)]
+
 ghost use Rattle.apdu_reading.specs.Answers.{Reads, ReadOnce};
 
 mod applications;

@@ -12,7 +12,7 @@ use crate::services::flag;
 use apdu::{Bst, Message, Vst};
 
 // A BST or VST up to its application lists. What its kind does not have is 0, and a VST has no second list.
-#[derive(Drop)]
+#[derive(Clone, Copy)]
 pub struct LinkFront {
     pub cursor: Cursor,
     pub choice: u64,
@@ -61,7 +61,7 @@ pub(crate) fn link_front(s: &[u8], c: Cursor) -> LinkFront
     }
 }
 
-#[derive(Drop)]
+#[derive(Clone, Copy)]
 pub struct Configuration {
     pub cursor: Cursor,
     pub class: u64,
@@ -98,7 +98,7 @@ pub(crate) fn configured(s: &[u8], c: Cursor) -> Configuration
 }
 
 // The message, and the cursor behind it.
-#[derive(Drop)]
+#[derive(Clone, Copy)]
 pub struct LinkEnd {
     pub cursor: Cursor,
     pub message: Message,

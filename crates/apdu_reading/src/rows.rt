@@ -8,7 +8,7 @@ use crate::cursor::Cursor;
 use apdu::{Due, Row};
 
 // The rows read so far: the first `used`; the others are empty.
-#[derive(Drop)]
+#[derive(Clone, Copy)]
 pub struct Rows {
     pub cursor: Cursor,
     pub used: u64,

@@ -20,7 +20,7 @@ pub(crate) fn flag(s: &[u8], at: usize) -> bool
 }
 
 // A message up to its rows: how many are due at depth 1 and 2, whether a number follows them, and the message with its rows and that number 0.
-#[derive(Drop)]
+#[derive(Clone, Copy)]
 pub struct Opened {
     pub cursor: Cursor,
     pub d1: u64,

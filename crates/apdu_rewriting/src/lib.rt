@@ -1,4 +1,7 @@
 // Reading a message and writing what was read: the same octets come back.
+
+#![tactic(auto)]
+
 ghost use Rattle.std.specs.Prelude.{◌≡◌, length};
 ghost use Rattle.apdu_format.specs.RoundTrip.{ReadingEncoded, EncodingRead, OneEncoding, SameEncoded, EncodingsAccepted, LevelsSuffice};
 ghost use Rattle.apdu_rewriting.specs.Rewriting.{answer_of, rewrite_answer, rewrite_output};
@@ -7,7 +10,7 @@ ghost use Rattle.apdu_rewriting.specs.RoundTrip.{WritingRead, ReadingWritten, Re
 use apdu_reading::{Answer, read};
 use apdu_writing::{ApduWritten, write};
 
-#[derive(Drop)]
+#[derive(Clone, Copy)]
 pub enum Rewritten {
     // Reading's refusal: its number and position.
     Refused(u8, usize),

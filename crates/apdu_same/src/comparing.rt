@@ -6,7 +6,7 @@ use crate::message::agree;
 use apdu::{Entry, Message, Row};
 
 // What comparing answers: 23, or whether the messages are the same.
-#[derive(Drop)]
+#[derive(Clone, Copy)]
 pub enum Compared {
     RecordOutOfRange,
     Same,

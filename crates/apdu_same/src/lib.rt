@@ -1,4 +1,7 @@
 // Comparing two messages.
+
+#![tactic(auto)]
+
 mod comparing;
 mod entries;
 mod fields;

@@ -31,7 +31,7 @@ fn entry(out: &mut [u8], s: &[u8], e: Entry, table: [Row; 32], first: usize, at:
 }
 
 // The place behind a list of entries, and the first row behind theirs.
-#[derive(Drop)]
+#[derive(Clone, Copy)]
 pub struct EntriesShown {
     pub at: usize,
     pub used: usize,

@@ -1,5 +1,8 @@
 // A message as text (01, "Messages"): its kind and its present fields, refusals, heading and totals, appended to a lent buffer. No function asks
 // anything of its caller.
+
+#![tactic(auto)]
+
 mod append;
 mod containers;
 mod entries;

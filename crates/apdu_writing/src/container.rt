@@ -37,7 +37,7 @@ pub(crate) fn head(
     row_count(depth + 1, n, out, d)
 }
 
-#[derive(Drop)]
+#[derive(Clone, Copy)]
 pub struct RowPut {
     pub quill: Quill,
     pub due: Due,

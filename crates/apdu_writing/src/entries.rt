@@ -64,7 +64,7 @@ fn application(
 }
 
 // The quill behind entries, and the rows that they have used.
-#[derive(Drop)]
+#[derive(Clone, Copy)]
 pub struct EntriesPut {
     pub quill: Quill,
     pub used: usize,

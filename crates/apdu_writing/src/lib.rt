@@ -1,4 +1,7 @@
 // Writing a message.
+
+#![tactic(auto)]
+
 mod component;
 mod container;
 mod counted;

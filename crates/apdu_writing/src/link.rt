@@ -50,7 +50,7 @@ fn configuration(kind: u64, maker: u64, p: bool, status: u64, out: &mut [u8], c:
 }
 
 // The quill behind the part before the lists; how many entries the lists have, and whether there are two.
-#[derive(Drop)]
+#[derive(Clone, Copy)]
 pub struct LinkFront {
     pub quill: Quill,
     pub first: u64,

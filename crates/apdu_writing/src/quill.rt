@@ -6,7 +6,7 @@ ghost use Rattle.apdu_writing.specs.Quill.{least, Put, spent};
 
 // at: the next octet, or FAR for any place from there on; room: how many attribute rows may still be announced; ok: whether all so far is in range.
 // The fields leave no gap, so that a quill is copied as one word.
-#[derive(Drop)]
+#[derive(Clone, Copy)]
 pub struct Quill {
     pub at: u16,
     pub room: u8,

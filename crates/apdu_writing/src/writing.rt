@@ -28,7 +28,7 @@ pub fn well_formed(message: Message, rows: [Row; 32], entries: [Entry; 32], lent
 }
 
 // What writing answers: 23, 21 with its position, 22, or how many octets were written.
-#[derive(Drop)]
+#[derive(Clone, Copy)]
 pub enum ApduWritten {
     RecordOutOfRange,
     MessageTooLong(usize),

@@ -1,5 +1,8 @@
 // The request call over rows by value, with what is proved of it besides its definition. It stands apart from `attributes`, so that a change of that crate's
 // code is checked quickly.
+
+#![tactic(auto)]
+
 ghost use Rattle.std.specs.Prelude.{◌≤◌, take};
 ghost use Rattle.directory.specs.Gathered.{list_of};
 ghost use Rattle.attributes.specs.Inside.{tag_of};

@@ -7,7 +7,7 @@ use apdu::{Message, Request, no_entries};
 use apdu_writing::{ApduWritten, write};
 
 // A refusal's number, with its position where it has one; no reply; or a reply of so many octets at the output's front.
-#[derive(Drop)]
+#[derive(Clone, Copy)]
 pub enum RequestOutcome {
     Refused(u8),
     RefusedAt(u8, usize),
@@ -15,7 +15,7 @@ pub enum RequestOutcome {
     Reply(usize),
 }
 
-#[derive(Drop)]
+#[derive(Clone, Copy)]
 pub struct RequestAnswer {
     pub outcome: RequestOutcome,
 }

@@ -1,5 +1,8 @@
 // The tag's request call (01, "Reading and setting attributes"): GET, SET and ECHO. The directory is a lent list of rows: `request` takes them into a value
 // and calls `request_in`.
+
+#![tactic(auto)]
+
 ghost use Rattle.attributes.specs.Serving.{Answered};
 ghost use Rattle.attributes.specs.Inside.{tag_of};
 

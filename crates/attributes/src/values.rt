@@ -9,7 +9,7 @@ ghost use Rattle.attributes.specs.Inside.{Gathers};
 use directory::{Directory, Row, find};
 
 // The values one behind the other, with room for 16 of 127 octets, and the attributes that tell where each stands.
-#[derive(Drop)]
+#[derive(Clone, Copy)]
 pub struct Values {
     pub octets: [u8; 2032],
     pub attributes: [apdu::Row; 32],

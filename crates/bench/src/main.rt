@@ -1,5 +1,8 @@
 // Runs recorded lines from standard input through the reassembly and prints what each fragment did (01, "The bench program"). Its memory does not
 // grow with the input: lines are split, read and answered in lent buffers.
+
+#![tactic(auto)]
+
 mod lines;
 mod printing;
 
@@ -7,7 +10,7 @@ use slots::Table;
 
 // What goes on from line to line: the table, the lines counted, the totals, the octets of a line that has not ended, the octets of text not yet
 // written.
-#[derive(Drop)]
+#[derive(Clone, Copy)]
 pub struct Run {
     pub table: Table,
     pub lines: u64,

@@ -10,7 +10,7 @@ use reassembly::FragmentAnswer;
 use slots::Table;
 
 // What a fragment's header tells: its message number, and how many octets of payload there are. 0 and 0 where it is not valid.
-#[derive(Drop)]
+#[derive(Clone, Copy)]
 pub(crate) struct Headed {
     pub number: u8,
     pub payload: usize,

@@ -1,4 +1,7 @@
 // One line of a recording through the joining: read, handed on as a fragment, and what to show of it (01, "The bench program").
+
+#![tactic(auto)]
+
 mod answers;
 mod joining;
 
@@ -6,7 +9,7 @@ use bench_lines::BenchAnswer;
 use slots::Table;
 
 // A line's answer, its two numbers, and what it adds to the totals.
-#[derive(Drop)]
+#[derive(Clone, Copy)]
 pub struct Columns {
     pub answer: BenchAnswer,
     pub octets: u64,
@@ -16,7 +19,7 @@ pub struct Columns {
 }
 
 // The table after a line, and what to show of it.
-#[derive(Drop)]
+#[derive(Clone, Copy)]
 pub struct Taken {
     pub table: Table,
     pub columns: Columns,

@@ -1,5 +1,8 @@
 // The lines of the bench program (01, "The bench program"): recorded lines read, answers and totals as text, and lines out of octets that come
 // in parts. No function asks anything of its caller.
+
+#![tactic(auto)]
+
 mod digits;
 mod hex;
 mod line;
@@ -12,21 +15,21 @@ pub const LONGEST_LINE: usize = 600;
 pub const NOT_A_LINE: u8 = 0;
 
 // A line's LID and tick, and how many octets of LSDU stand at the front of the lent buffer; or a refusal.
-#[derive(Drop)]
+#[derive(Clone, Copy)]
 pub enum LineRead {
     Fields { lid: u32, tick: u32, octets: usize },
     Refused(u8),
 }
 
 // How many octets of a line of hex stand at the front of the lent buffer; or a refusal.
-#[derive(Drop)]
+#[derive(Clone, Copy)]
 pub enum HexRead {
     Octets(usize),
     Refused(u8),
 }
 
 // The answers that a line of output can have.
-#[derive(Drop)]
+#[derive(Clone, Copy)]
 pub enum BenchAnswer {
     Held,
     Whole,
@@ -34,7 +37,7 @@ pub enum BenchAnswer {
 }
 
 // Octets, over all lines.
-#[derive(Drop)]
+#[derive(Clone, Copy)]
 pub struct Totals {
     pub accepted: u64,
     pub delivered: u64,
@@ -42,7 +45,7 @@ pub struct Totals {
     pub held: u64,
 }
 
-#[derive(Drop)]
+#[derive(Clone, Copy)]
 pub enum Appended {
     // The place behind the text.
     Next(usize),

@@ -1,10 +1,13 @@
 // Shows messages: reads lines of hex from standard input and prints the kind and the fields of each message, or why it is refused. Its memory does not
 // grow with the input: lines are split, read and answered in lent buffers.
+
+#![tactic(auto)]
+
 mod lines;
 mod printing;
 
 // What goes on from line to line: the lines counted, the totals, the octets of a line that has not ended, the octets of text not yet written.
-#[derive(Drop)]
+#[derive(Clone, Copy)]
 pub struct Run {
     pub lines: u64,
     pub messages: u64,

@@ -1,6 +1,9 @@
 // The tag's directory of attributes (01, "Reading and setting attributes"): which part of which area an attribute is.
 // The directory is a lent list of rows. The functions over it (gather, lookup, knows) take its rows into a value and call the others; lookup_among and
 // knows_among lend them the first rows of an array.
+
+#![tactic(auto)]
+
 ghost use Rattle.std.specs.Prelude.{◌≡◌, ◌+◌, ◌≤◌, ltb, length, take};
 ghost use Rattle.refusals.specs.Check.{pick};
 ghost use Rattle.directory.specs.Part.{PartOf};
@@ -9,7 +12,7 @@ ghost use Rattle.directory.specs.Gathered.{no_directory, with_row, gathered, lis
 
 // 01's attribute row. A start and a length count octets. The two long fields stand first, so that the only gap is behind the last one: a directory is then
 // copied as one block.
-#[derive(Drop)]
+#[derive(Clone, Copy)]
 pub struct Row {
     pub start: usize,
     pub length: usize,
@@ -20,21 +23,21 @@ pub struct Row {
 }
 
 // The rows of a directory by value; a count of 33 tells that there are more than 32.
-#[derive(Drop)]
+#[derive(Clone, Copy)]
 pub struct Directory {
     pub rows: [Row; 32],
     pub count: usize,
 }
 
 // Whether a directory has an id; 26 where it is not sound.
-#[derive(Drop)]
+#[derive(Clone, Copy)]
 pub enum KnowsAnswer {
     Known(bool),
     Refused(u8),
 }
 
 // Whether a directory has a row with an id, and that row; without one, a row of zeros.
-#[derive(Drop)]
+#[derive(Clone, Copy)]
 pub struct Found {
     pub known: bool,
     pub row: Row,

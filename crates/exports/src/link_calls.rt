@@ -53,7 +53,7 @@ pub extern "C" fn semuryeon_link_tick(tick: u32, link: &mut [u32]) -> u64
 // ---- BST
 
 // The BST that a message is, if it is one.
-#[derive(Drop)]
+#[derive(Clone, Copy)]
 pub(crate) enum Offer {
     Offered(Bst),
     Other,

@@ -18,7 +18,7 @@ const FIRST_ENTRY: u32 = 34;
 const FIELDS: u32 = 66;
 
 // A string's part of the message, if it is there: a bit place and octets.
-#[derive(Drop)]
+#[derive(Clone, Copy)]
 pub(crate) struct StringPart {
     pub present: bool,
     pub start: usize,

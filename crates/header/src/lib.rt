@@ -1,9 +1,12 @@
 // The fragment header of ISO 15628, 6.3.3 (01, "Fragment header"): one to three octets in front of a fragment's payload.
+
+#![tactic(auto)]
+
 ghost use Rattle.std.specs.Prelude.{◌≡◌, ◌&&◌, ◌+◌, ◌*◌, ◌%◌, ◌<◌, ◌≤◌, eqb, length, get_or};
 ghost use Rattle.header.specs.Header.{end_bit, header_length, counter_in, length_for, read_header, read_answer, bit_of, write_header, write_answer, output_after};
 ghost use Rattle.header.specs.RoundTrip.{ReadingWritten, ReadingExact, WritingRead};
 
-#[derive(Drop)]
+#[derive(Clone, Copy)]
 pub struct Header {
     // 01's last mark: this fragment ends its message.
     pub last: bool,
@@ -13,14 +16,14 @@ pub struct Header {
     pub counter: u32,
 }
 
-#[derive(Drop)]
+#[derive(Clone, Copy)]
 pub enum HeaderRead {
     // The header, and its size in octets.
     Fields { header: Header, size: usize },
     Refused(u8),
 }
 
-#[derive(Drop)]
+#[derive(Clone, Copy)]
 pub enum HeaderWritten {
     // How many octets the header takes at the front of the output.
     Octets(usize),

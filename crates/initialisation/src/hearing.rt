@@ -79,7 +79,7 @@ fn refusal(octets: usize, lid: u32, sound: bool, fine: bool) -> u8
 // ---- silence or a fresh start
 
 // What the tag makes of a BST.
-#[derive(Drop)]
+#[derive(Clone, Copy)]
 pub enum Decision {
     Stay,
     Start { profile: u64, element: Element },

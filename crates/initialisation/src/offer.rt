@@ -14,13 +14,13 @@ pub const LARGEST_PROFILE: u64 = 1;
 // The entries that stand beside a BST.
 const ENTRIES: u64 = 32;
 
-#[derive(Drop)]
+#[derive(Clone, Copy)]
 pub enum Pair {
     Taken(Element),
     NoPair,
 }
 
-#[derive(Drop)]
+#[derive(Clone, Copy)]
 pub enum Profile {
     Taken(u64),
     NoProfile,

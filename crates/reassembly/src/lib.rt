@@ -1,5 +1,8 @@
 // Reassembly of fragments into messages (01 calls it joining, a slot a place, and the PDU number a message number). The table of
 // slots goes by value, with a lent store of 4,096 octets, 512 for each slot in order.
+
+#![tactic(auto)]
+
 mod accept;
 mod checks;
 mod copy;
@@ -18,21 +21,21 @@ pub const LAST_COUNTER: u32 = 65535;
 
 // What a fragment call answers: the octets now held of the message, or those delivered, with the octets dropped of an older
 // message of the pair; or a refusal.
-#[derive(Drop)]
+#[derive(Clone, Copy)]
 pub enum FragmentAnswer {
     Held { octets: usize, dropped: usize },
     Whole { octets: usize, dropped: usize },
     Refused(u8),
 }
 
-#[derive(Drop)]
+#[derive(Clone, Copy)]
 pub struct FragmentResult {
     pub answer: FragmentAnswer,
     pub table: Table,
 }
 
 // What the checks ask of a fragment: whether its header is valid, its fields, and the octets of its payload.
-#[derive(Drop)]
+#[derive(Clone, Copy)]
 pub(crate) struct FragmentFields {
     pub octets: usize,
     pub counter: u32,
@@ -42,7 +45,7 @@ pub(crate) struct FragmentFields {
 }
 
 // What the checks ask of its pair: whether it is open, the expected counter, the octets held; and whether no slot is free.
-#[derive(Drop)]
+#[derive(Clone, Copy)]
 pub(crate) struct Facts {
     pub held: usize,
     pub expected: u32,
@@ -51,7 +54,7 @@ pub(crate) struct Facts {
 }
 
 // A fragment that no check refused, with the index of its pair's slot.
-#[derive(Drop)]
+#[derive(Clone, Copy)]
 pub(crate) struct Arrival {
     pub index: usize,
     pub lid: u32,
@@ -62,7 +65,7 @@ pub(crate) struct Arrival {
 }
 
 // What a fragment is answered, and the one slot that it changes unless it is refused: what it is then, and its index, which may be past the eight.
-#[derive(Drop)]
+#[derive(Clone, Copy)]
 pub struct Change {
     pub answer: FragmentAnswer,
     pub slot: Slot,

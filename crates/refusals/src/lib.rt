@@ -1,5 +1,7 @@
 // The refusal numbers of document 01, each under one name. docs/FAULTS.md is the card: condition, and where it is checked.
 
+#![tactic(auto)]
+
 pub const STORE_OR_OUTPUT_LENGTH: u8 = 1;
 
 pub const TABLE_NOT_SOUND: u8 = 2;

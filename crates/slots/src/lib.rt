@@ -1,5 +1,8 @@
 // The table of slots that reassembly keeps by value: soundness, the busy word, lookup, expiry and release. (01 calls reassembly
 // joining, a slot a place, and the PDU number a message number.)
+
+#![tactic(auto)]
+
 mod lookup;
 mod soundness;
 mod sweep;
@@ -21,7 +24,7 @@ pub const HIGHEST_NUMBER: u8 = 15;
 
 // One place of 01's table. A free slot is all zero. Each field has 32 bits, in the order of the words that hold a table outside (the crate `words`), so that a
 // table goes in and out as one block.
-#[derive(Drop)]
+#[derive(Clone, Copy)]
 pub struct Slot {
     pub lid: u32,
     pub number: u32,
@@ -32,7 +35,7 @@ pub struct Slot {
     pub tick: u32,
 }
 
-#[derive(Drop)]
+#[derive(Clone, Copy)]
 pub struct Table {
     // Bit i tells whether slot i is taken.
     pub busy: u32,
@@ -40,13 +43,13 @@ pub struct Table {
 }
 
 // What expiry and release answer: the octets dropped, or a refusal.
-#[derive(Drop)]
+#[derive(Clone, Copy)]
 pub enum SweepAnswer {
     Dropped(usize),
     Refused(u8),
 }
 
-#[derive(Drop)]
+#[derive(Clone, Copy)]
 pub struct SweepResult {
     pub answer: SweepAnswer,
     pub table: Table,

@@ -9,13 +9,13 @@ use crate::word::word;
 use crate::{Slot, SweepAnswer, SweepResult, Table, free_slot};
 
 // Which slots go: those of an age, or those of a LID.
-#[derive(Drop)]
+#[derive(Clone, Copy)]
 pub(crate) enum Sweep {
     Aged { tick: u32, limit: u32 },
     OfLid(u32),
 }
 
-#[derive(Drop)]
+#[derive(Clone, Copy)]
 pub(crate) struct Swept {
     slots: [Slot; 8],
     dropped: usize,

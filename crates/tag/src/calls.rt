@@ -11,7 +11,7 @@ use initialisation::{BstAnswer, LinkAnswer, LinkResult};
 const NOT_A_LINE: u8 = 0;
 
 // Octets of the line stand at the front of the lent buffer, and are counted here.
-#[derive(Drop)]
+#[derive(Clone, Copy)]
 pub enum Call {
     Bst { tick: u32, lid: u32, octets: usize },
     Release(u32),

@@ -1,5 +1,8 @@
 // The tag at a terminal: runs a script of set-up lines and calls from standard input through the tag, and prints an answer line for each call, so that
 // an engineer can try a tag without hardware. Its memory does not grow with the input.
+
+#![tactic(auto)]
+
 mod calls;
 mod lines;
 mod numbers;
@@ -13,7 +16,7 @@ use directory::Directory;
 use initialisation::{Configuration, Elements, Link};
 
 // The tag between two lines. Its octets stand in lent areas: of each so many are in use.
-#[derive(Drop)]
+#[derive(Clone, Copy)]
 pub struct Tag {
     pub link: Link,
     pub elements: Elements,
@@ -26,7 +29,7 @@ pub struct Tag {
 }
 
 // What a line is answered with.
-#[derive(Drop)]
+#[derive(Clone, Copy)]
 pub enum Answer {
     // A set-up line.
     Nothing,
@@ -46,14 +49,14 @@ pub enum Answer {
 }
 
 // The tag after a line, and the line's answer.
-#[derive(Drop)]
+#[derive(Clone, Copy)]
 pub struct Taken {
     pub tag: Tag,
     pub answer: Answer,
 }
 
 // What goes on from line to line: the tag, the lines counted, the octets of a line that has not ended, the octets of text not yet written.
-#[derive(Drop)]
+#[derive(Clone, Copy)]
 pub struct Run {
     pub tag: Tag,
     pub lines: u64,

@@ -6,13 +6,13 @@ const NUMBER_BOUND: u64 = 4294967296;
 // The most digits of a LID.
 const LID_DIGITS: usize = 8;
 
-#[derive(Drop)]
+#[derive(Clone, Copy)]
 pub enum Number {
     Value(u32),
     NoNumber,
 }
 
-#[derive(Drop)]
+#[derive(Clone, Copy)]
 pub enum Octets {
     // So many stand at the buffer's front.
     Count(usize),

@@ -5,7 +5,7 @@ use directory::Row;
 use initialisation::Configuration;
 
 // Octets of the line stand at the front of the lent buffer, and are counted here.
-#[derive(Drop)]
+#[derive(Clone, Copy)]
 pub enum SetUp {
     Configuration(Configuration),
     Element { eid: u8, aid: u8, mark: usize },
@@ -17,14 +17,14 @@ pub enum SetUp {
     NoSetUp,
 }
 
-#[derive(Drop)]
+#[derive(Clone, Copy)]
 pub enum Area {
     Factory,
     Writable,
     NoArea,
 }
 
-#[derive(Drop)]
+#[derive(Clone, Copy)]
 pub enum Access {
     Open,
     Protected,

@@ -1,5 +1,8 @@
 // States and answers as words, for callers that are not Rattle: the table and the link as words that the caller lends, elements and attribute rows as
 // lists of words, and an answer as one number. Words of a wrong length, or out of range, are a state that the calls refuse.
+
+#![tactic(auto)]
+
 mod answer;
 mod directory_words;
 mod elements_words;
