@@ -1,0 +1,13 @@
+-- By whether a fault is set.
+-- Assumes nothing.
+use borrow.Author.Tests.{eq-eqb, ne_eqb}
+use Rattle.apdu_reading.specs.Answers.{place_of}
+use Rattle.apdu_reading.proofs.front.place_of.Goals as goal
+
+pub returns-then-end-ne0 : goal.returns-then-end-ne0
+unfolding place_of
+returns-then-end-ne0 c = simp (ne_eqb _ _ c.if-end-ne0.true)
+
+pub returns : goal.returns
+unfolding place_of
+returns c = simp (eq-eqb _ _ c.if-end-ne0.false)

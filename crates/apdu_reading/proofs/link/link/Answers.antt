@@ -1,0 +1,12 @@
+-- What stands before the application lists, and the rest from there on.
+-- Assumes nothing.
+use Rattle.apdu_reading.proofs.link.link.Goals as goal
+
+pub link_front-f-requires : goal.link_front-f-requires
+link_front-f-requires c = c.requires
+
+pub application_lists-requires : goal.application_lists-requires
+application_lists-requires c = (c.requires.0, c.link_front-f.ensures)
+
+pub returns : goal.returns
+returns c = c.application_lists.ensures

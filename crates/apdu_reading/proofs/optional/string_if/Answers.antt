@@ -1,0 +1,10 @@
+-- By whether it is there.
+-- Assumes nothing.
+use Rattle.apdu_reading.proofs.Absent.{part_there, part_absent}
+use Rattle.apdu_reading.proofs.optional.string_if.Goals as goal
+
+pub returns-then-p : goal.returns-then-p
+returns-then-p c = part_there _ _ _ _ c.if-p.true c.string.ensures
+
+pub returns : goal.returns
+returns c = part_absent _ _ _ _ _ c.if-p.false c.marked.ensures

@@ -1,0 +1,82 @@
+use native.Mathlib.Omega.{arith}
+use Prim.Native.Nat.{◌-◌}
+use mathlib.Core.Path.{◌≡◌, sym, ◌∙◌}
+use mathlib.Core.Logic.{⊎_elim}
+use lib.ListN.{length, take}
+use Rattle.apdu.specs.Values.{empty_entry}
+use Rattle.apdu.proofs.Tables.{long, part_length, part_place}
+use Rattle.apdu_same.proofs.EntryLists.{entries_all, entries_none, entry_other, entry_passed, rows_same, rows_other}
+use Rattle.apdu_same.proofs.entries.applications.Goals as goal
+
+pub loop-i-init : goal.loop-i-init
+loop-i-init c =
+    let t : length c.args.t2 ≡ 32 = search (long, c.well-formed.1.0.1) in
+    let u : length c.args.t6 ≡ 32 = search (long, c.well-formed.1.1.1.1.1.0.1) in
+    let k = c.clamped-k.ensures in
+    (omega arith, part_length _ c.args.from c.args.n t k.0, part_length _ c.args.from c.args.n u k.0, omega arith, omega arith, omega arith, entries_all _ _ _ _ _ _ _ _)
+
+pub overflow_add-e : goal.overflow_add-e
+overflow_add-e c = omega arith
+
+pub offset_bounds-list-from : goal.offset_bounds-list-from
+offset_bounds-list-from c = omega arith
+
+pub bounds-list-from : goal.bounds-list-from
+bounds-list-from c = omega arith
+
+pub overflow_add-f : goal.overflow_add-f
+overflow_add-f c = omega arith
+
+pub offset_bounds-other-from : goal.offset_bounds-other-from
+offset_bounds-other-from c = omega arith
+
+pub bounds-other-from : goal.bounds-other-from
+bounds-other-from c = omega arith
+
+pub returns-then-not-entry : goal.returns-then-not-entry
+returns-then-not-entry c =
+    let l = c.loop-i in
+    let h = c.loop-i-test.true in
+    let a = c.args in
+    sym (l.invariant.6 ∙ entry_other _ _ _ _ _ _ l.i l.used l.gone (part_place empty_entry a.t2 a.from a.n l.i l.invariant.1 h) (part_place empty_entry a.t6 a.from a.n l.i l.invariant.2 h) (omega arith) (omega arith) c.entry.ensures c.if-not-entry.true-raw)
+
+pub returns-then-not-rows : goal.returns-then-not-rows
+returns-then-not-rows c =
+    let l = c.loop-i in
+    let h = c.loop-i-test.true in
+    let a = c.args in
+    sym (l.invariant.6 ∙ rows_other _ _ _ _ _ _ l.i l.used l.gone (part_place empty_entry a.t2 a.from a.n l.i l.invariant.1 h) (part_place empty_entry a.t6 a.from a.n l.i l.invariant.2 h) (omega arith) (omega arith) c.entry.ensures c.if-not-entry.false-raw c.entry_rows-own.ensures.0 c.entry_rows-theirs.ensures.0 c.lists_rows.ensures c.if-lists_rows.true c.rows.ensures c.if-not-rows.true-raw)
+
+pub overflow_add-used : goal.overflow_add-used
+overflow_add-used c = omega (arith, c.entry_rows-own.ensures.1, c.loop-i.invariant, c.requires)
+
+pub overflow_add-gone : goal.overflow_add-gone
+overflow_add-gone c = omega (arith, c.entry_rows-theirs.ensures.1, c.loop-i.invariant, c.requires)
+
+pub overflow_add-i : goal.overflow_add-i
+overflow_add-i c = omega arith
+
+pub loop-i-smaller : goal.loop-i-smaller
+loop-i-smaller c = omega arith
+
+pub loop-i-preserved : goal.loop-i-preserved
+loop-i-preserved c =
+    let l = c.loop-i in
+    let h = c.loop-i-test.true in
+    let a = c.args in
+    let own = c.entry_rows-own.ensures in
+    let theirs = c.entry_rows-theirs.ensures in (
+      omega arith,
+      l.invariant.1,
+      l.invariant.2,
+      l.invariant.3,
+      omega (arith, own.1),
+      omega (arith, theirs.1),
+      l.invariant.6
+          ∙ ⊎_elim
+          (λ x. rows_same _ _ _ _ _ _ l.i l.used l.gone (part_place empty_entry a.t2 a.from a.n l.i l.invariant.1 h) (part_place empty_entry a.t6 a.from a.n l.i l.invariant.2 h) (omega arith) (omega arith) c.entry.ensures c.if-not-entry.false-raw own.0 theirs.0 c.lists_rows.ensures x.0.taken x.1.ensures x.2.left)
+          (λ x. entry_passed _ _ _ _ _ _ l.i l.used l.gone (part_place empty_entry a.t2 a.from a.n l.i l.invariant.1 h) (part_place empty_entry a.t6 a.from a.n l.i l.invariant.2 h) (omega arith) (omega arith) c.entry.ensures c.if-not-entry.false-raw own.0 theirs.0 c.lists_rows.ensures x.left) c.if-lists_rows.branch,
+    )
+
+pub returns : goal.returns
+returns c = let l = c.loop-i in sym (l.invariant.6 ∙ entries_none _ _ _ _ _ _ l.i l.used l.gone (omega arith) (omega arith))

@@ -1,0 +1,15 @@
+-- Where the leading parts agree, the rest is compared piece by piece.
+-- Assumes nothing.
+use mathlib.Core.Path.{refl}
+use Rattle.apdu.specs.Values.{action_response_values}
+use Rattle.apdu_same.proofs.Agreement.{lead_more, lead_last, other}
+use Rattle.apdu_same.proofs.Records.{action_response_same}
+use Rattle.apdu_same.proofs.kinds.action_response.Goals as goal
+
+pub returns-then-not-lead : goal.returns-then-not-lead
+unfolding action_response_values
+returns-then-not-lead c = other (lead_more c.flag.ensures (lead_more c.flag-2.ensures (lead_more c.flag-3.ensures (lead_last _ _ refl)))) c.if-not-lead.true-raw
+
+pub returns : goal.returns
+returns c =
+    action_response_same _ _ _ _ _ _ (lead_more c.flag.ensures (lead_more c.flag-2.ensures (lead_more c.flag-3.ensures (lead_last _ _ refl)))) c.if-not-lead.false-raw c.number_if-iid.ensures c.boxed_if-parameter.ensures c.number_if.ensures

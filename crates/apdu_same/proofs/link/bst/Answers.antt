@@ -1,0 +1,19 @@
+-- Where the leading parts agree, the rest is compared piece by piece.
+-- Assumes nothing.
+use mathlib.Core.Path.{◌≡◌, refl}
+use lib.ListN.{length}
+use Rattle.apdu.specs.Values.{bst_values}
+use Rattle.apdu.proofs.Tables.{long}
+use Rattle.apdu_same.proofs.Agreement.{lead_more, lead_last, other}
+use Rattle.apdu_same.proofs.Links.{bst_same}
+use Rattle.apdu_same.proofs.link.bst.Goals as goal
+
+pub returns-then-not-lead : goal.returns-then-not-lead
+unfolding bst_values
+returns-then-not-lead c = other (lead_more c.flag.ensures (lead_more refl (lead_last _ _ refl))) c.if-not-lead.true-raw
+
+pub returns : goal.returns
+returns c =
+    let n : length c.args.list ≡ 32 = search (long, c.well-formed.1.1.0.1) in
+    let m : length c.args.other ≡ 32 = search (long, c.well-formed.1.1.1.1.1.1.0.1) in
+    bst_same _ _ _ _ _ _ _ _ n m c.rows_of_lem.ensures.0 c.rows_of-2.ensures.0 (lead_more c.flag.ensures (lead_more refl (lead_last _ _ refl))) c.if-not-lead.false-raw c.applications_if-mandatory.ensures c.applications_if-second.ensures c.part_if.ensures

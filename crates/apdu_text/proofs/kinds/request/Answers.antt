@@ -1,0 +1,16 @@
+-- Its fields, one behind the other.
+-- Assumes nothing.
+use mathlib.Core.Path.{refl}
+use Rattle.apdu_text.specs.MessageText.{request_text}
+use Rattle.apdu_text.proofs.Inking.{inks_then}
+use Rattle.apdu_text.specs.Words.{mode_is}
+use Rattle.apdu_text.proofs.Pieces.{number_as}
+use mathlib.Core.Path.{◌∙◌}
+use Rattle.apdu_text.proofs.kinds.request.Goals as goal
+
+pub shape_of-out : goal.shape_of-out
+shape_of-out c = c.number_if.auto.1.0 ∙ c.container_if-f.auto.1.0 ∙ c.string_if-e.auto.1.0 ∙ c.number-d.auto.0 ∙ c.number-c.auto.0 ∙ c.number-b.auto.0
+
+pub returns : goal.returns
+unfolding request_text
+returns c = inks_then (number_as mode_is c.bit.ensures c.number-b.ensures) (inks_then c.number-c.ensures (inks_then c.number-d.ensures (inks_then c.string_if-e.ensures (inks_then c.container_if-f.ensures c.number_if.ensures))))

@@ -1,0 +1,10 @@
+-- `string_if` writes the string or nothing.
+-- Assumes nothing.
+use Rattle.apdu_writing.proofs.Components.{there_sound, absent_sound}
+use Rattle.apdu_writing.proofs.component.string_if.Goals as goal
+
+pub returns-then-p : goal.returns-then-p
+returns-then-p c = there_sound _ c.if-p.true c.string.ensures
+
+pub returns : goal.returns
+returns c = absent_sound _ _ _ _ _ c.if-p.false _

@@ -1,0 +1,13 @@
+-- The profiles of a BST, the configuration of a VST.
+-- Assumes nothing.
+use Rattle.apdu_writing.proofs.Links.{is_bst, is_vst, is_other}
+use Rattle.apdu_writing.proofs.link.link_tail.Goals as goal
+
+pub returns-in-Bst : goal.returns-in-Bst
+returns-in-Bst c = is_bst c.m-1.given.1 c.ids.ensures
+
+pub returns-in-Vst : goal.returns-in-Vst
+returns-in-Vst c = is_vst c.m-in-Vst-1.given.1 c.configuration.ensures
+
+pub returns-in_default : goal.returns-in_default
+returns-in_default c = is_other c.in_default.keys3

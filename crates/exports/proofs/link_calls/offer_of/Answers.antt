@@ -1,0 +1,5 @@
+-- `exports::link_calls::offer_of` meets its contract, case by case. Assumes nothing.
+use Rattle.exports.proofs.link_calls.offer_of.Goals as goal
+
+pub returns-in-Bst : goal.returns-in-Bst
+returns-in-Bst c = rw c.m-1.given.1

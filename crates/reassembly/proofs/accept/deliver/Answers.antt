@@ -1,0 +1,19 @@
+-- What is held goes to the front of the output and the payload behind it.
+use mathlib.Core.Path.{ap, ◌∙◌}
+use mathlib.Core.List.{List}
+use Prim.Native.Nat.{ℕ, ◌*◌}
+use native.Mathlib.Omega.{arith}
+use lib.ListN.{length, take, drop, length-drop}
+use lib.Seq.{paste, length-take-le}
+use Rattle.reassembly.proofs.Accepting.{two_pastes}
+use Rattle.reassembly.proofs.accept.deliver.Goals as goal
+
+pub returns : goal.returns
+returns c =
+    let a = c.args in
+    let pre = c.requires in
+    let part = drop (512 * a.index) a.store.now in
+    let long = length-take-le a part (omega (arith, length-drop (512 * a.index) a.store.now)) in
+    let front = ap (λ (l : List ℕ). paste l a a.payload.now (length a.payload.now)) c.copy_held.ensures in
+    let written = c.copy.ensures ∙ front ∙ two_pastes a.output-1.now (take a part) a.payload.now a long (omega arith) in
+    record { change_is = rw c.free_slot.ensures; output_is = written }
