@@ -10,6 +10,8 @@ import re
 import sys
 from pathlib import Path
 
+# crate::path::fn -> its parameters' names
+PARAMS = {}
 CHAIN = re.compile(r"(?<![\w◌'.-])([A-Za-z_λμκ][\w'₀-₉]*)((?:\.[\w'₀-₉-]*[\w'₀-₉])+)")
 
 
@@ -34,6 +36,10 @@ def clauses_of(root):
                 for kind, name in re.findall(r"^\s*(requires|ensures)\*?(?: (\w+))? *\{", head, re.M):
                     names[kind].append(name)
                 found["::".join([crate.name, *module, m.group(2)])] = (names["requires"], names["ensures"])
+                given = re.match(r"(?:<[^>]*>)?\s*\(([^)]*(?:\([^)]*\)[^)]*)*)\)", rest)
+                if given:
+                    parts = [x.strip().split(":")[0].replace("mut ", "").strip() for x in re.split(r",(?![^<\[]*[>\]])", given.group(1)) if x.strip()]
+                    PARAMS["::".join([crate.name, *module, m.group(2)])] = parts
     return found
 
 
@@ -88,7 +94,9 @@ def by_index(indices, names):
 class Turner:
     def __init__(self, entry, clauses, function):
         self.entry, self.clauses, self.function = entry, clauses, function
+        self.params = PARAMS.get(function, [])
         self.places = {p[0]: p for p in entry["places"]}
+        self.arm_at = {p[0]: arm for p, arm in zip(entry["places"], entry["arms"]) if arm}
         # at each place: the step that says what the type of a live variable says -> the variable
         self.typed = {p[0]: {flat(step): var for var, step in row} for p, row in zip(entry["places"], entry["typed"])}
 
@@ -100,6 +108,16 @@ class Turner:
             place = parent
         return steps
 
+    def arms_to(self, place):
+        """What an arm of a match binds, at a place behind it: ((arm, field), step, fields of the step)."""
+        found = []
+        while place is not None:
+            arm = self.arm_at.get(place)
+            if arm:
+                found += [((arm[0], field), step, old) for field, step, old in arm[2]]
+            place = self.places[place][1]
+        return found
+
     def chain(self, m, steps, typed):
         head, segments = m.group(1), [s for s in m.group(2).split(".")[1:]]
         had = "before" in segments
@@ -107,8 +125,11 @@ class Turner:
         if not segments:
             return head
         first = flat(segments[0])
-        if first not in steps and first.endswith("_law"):
+        if first not in steps and first.endswith(("_law", "_lem")):
             first = first[:-4]
+        for field, step, old in self.arms:
+            if first == flat(step) and segments[1 : 1 + len(old)] == old:
+                return ".".join([head, field[0], field[1], *segments[1 + len(old) :]])
         if first in typed and len(segments) > 1 and segments[1] == "given":
             segments = ["type_inv", typed[first], *segments[2:]]
         elif first in steps and (head == "c" or had or len(segments) > 1):
@@ -130,7 +151,12 @@ class Turner:
     def body(self, text, place):
         steps = self.path_to(place)
         typed = self.typed[place]
+        self.arms = self.arms_to(place)
         text = CHAIN.sub(lambda m: self.chain(m, steps, typed), text)
+        # an array's length is known without the record of what each argument's type says
+        text = re.sub(r"search \(long, c\.(?:before\.)*well-formed[.\d]*\)", "search (rules, long)", text)
+        # an argument by its name
+        text = re.sub(r"(?<=[\w])\.t(\d+)(?![\w-])", lambda m: "." + self.params[int(m.group(1)) - 1] if int(m.group(1)) <= len(self.params) else m.group(0), text)
         # a name for an earlier place is the place itself now
         while True:
             m = re.search(r"let ([A-Za-z_]\w*) = c in\s*", text)

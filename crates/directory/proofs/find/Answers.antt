@@ -30,7 +30,7 @@ overflow_cast-row c = omega arith
 
 pub returns-then-row-id : goal.returns-then-row-id
 returns-then-row-id c =
-    let e = index_here c.args.t1.rows _ (there c) c.args.id c.loop-i.i (omega arith) c.if-row-id.true in
+    let e = index_here c.args.d.rows _ (there c) c.args.id c.loop-i.i (omega arith) c.if-row-id.true in
     find_row _ _ c.if-n-gt-MOST_ROWS.false (long c) (omega (arith, e, c.loop-i.invariant.1)) (omega arith)
 
 pub overflow_add-i : goal.overflow_add-i
@@ -41,10 +41,10 @@ loop-i-smaller c = omega arith
 
 pub loop-i-preserved : goal.loop-i-preserved
 loop-i-preserved c =
-    let e = index_next c.args.t1.rows _ (there c) c.args.id c.loop-i.i (omega arith) c.if-row-id.false in
+    let e = index_next c.args.d.rows _ (there c) c.args.id c.loop-i.i (omega arith) c.if-row-id.false in
     omega (arith, e, c.loop-i.invariant.1)
 
 pub returns : goal.returns
 returns c =
-    let e = index_none c.args.t1.rows _ (there c) c.args.id c.loop-i.i (omega arith) in
+    let e = index_none c.args.d.rows _ (there c) c.args.id c.loop-i.i (omega arith) in
     rw c.no_row-2.ensures (find_none _ _ c.if-n-gt-MOST_ROWS.false (long c) {i = c.loop-i.i} (omega (arith, e, c.loop-i.invariant.1)) (omega arith))

@@ -10,8 +10,8 @@ use Rattle.apdu_same.proofs.entries.applications.Goals as goal
 
 pub loop-i-init : goal.loop-i-init
 loop-i-init c =
-    let t : length c.args.t2 ≡ 32 = search (long, c.well-formed.1.0.1) in
-    let u : length c.args.t6 ≡ 32 = search (long, c.well-formed.1.1.1.1.1.0.1) in
+    let t : length c.args.list ≡ 32 = search (long, c.well-formed.1.0.1) in
+    let u : length c.args.other ≡ 32 = search (long, c.well-formed.1.1.1.1.1.0.1) in
     let k = c.clamped-k.ensures in
     (omega arith, part_length _ c.args.from c.args.n t k.0, part_length _ c.args.from c.args.n u k.0, omega arith, omega arith, omega arith, entries_all _ _ _ _ _ _ _ _)
 
@@ -38,14 +38,14 @@ returns-then-not-entry c =
     let l = c.loop-i in
     let h = c.loop-i-test.true in
     let a = c.args in
-    sym (l.invariant.6 ∙ entry_other _ _ _ _ _ _ l.i l.used l.gone (part_place empty_entry a.t2 a.from a.n l.i l.invariant.1 h) (part_place empty_entry a.t6 a.from a.n l.i l.invariant.2 h) (omega arith) (omega arith) c.entry.ensures c.if-not-entry.true-raw)
+    sym (l.invariant.6 ∙ entry_other _ _ _ _ _ _ l.i l.used l.gone (part_place empty_entry a.list a.from a.n l.i l.invariant.1 h) (part_place empty_entry a.other a.from a.n l.i l.invariant.2 h) (omega arith) (omega arith) c.entry.ensures c.if-not-entry.true-raw)
 
 pub returns-then-not-rows : goal.returns-then-not-rows
 returns-then-not-rows c =
     let l = c.loop-i in
     let h = c.loop-i-test.true in
     let a = c.args in
-    sym (l.invariant.6 ∙ rows_other _ _ _ _ _ _ l.i l.used l.gone (part_place empty_entry a.t2 a.from a.n l.i l.invariant.1 h) (part_place empty_entry a.t6 a.from a.n l.i l.invariant.2 h) (omega arith) (omega arith) c.entry.ensures c.if-not-entry.false-raw c.entry_rows-own.ensures.0 c.entry_rows-theirs.ensures.0 c.lists_rows.ensures c.if-lists_rows.true c.rows.ensures c.if-not-rows.true-raw)
+    sym (l.invariant.6 ∙ rows_other _ _ _ _ _ _ l.i l.used l.gone (part_place empty_entry a.list a.from a.n l.i l.invariant.1 h) (part_place empty_entry a.other a.from a.n l.i l.invariant.2 h) (omega arith) (omega arith) c.entry.ensures c.if-not-entry.false-raw c.entry_rows-own.ensures.0 c.entry_rows-theirs.ensures.0 c.lists_rows.ensures c.if-lists_rows.true c.rows.ensures c.if-not-rows.true-raw)
 
 pub overflow_add-used : goal.overflow_add-used
 overflow_add-used c = omega (arith, c.entry_rows-own.ensures.1, c.loop-i.invariant, c.requires)
@@ -74,8 +74,8 @@ loop-i-preserved c =
       omega (arith, theirs.1),
       l.invariant.6
           ∙ ⊎_elim
-          (λ x. rows_same _ _ _ _ _ _ l.i l.used l.gone (part_place empty_entry a.t2 a.from a.n l.i l.invariant.1 h) (part_place empty_entry a.t6 a.from a.n l.i l.invariant.2 h) (omega arith) (omega arith) c.entry.ensures c.if-not-entry.false-raw own.0 theirs.0 c.lists_rows.ensures x.0.taken x.1.ensures x.2.left)
-          (λ x. entry_passed _ _ _ _ _ _ l.i l.used l.gone (part_place empty_entry a.t2 a.from a.n l.i l.invariant.1 h) (part_place empty_entry a.t6 a.from a.n l.i l.invariant.2 h) (omega arith) (omega arith) c.entry.ensures c.if-not-entry.false-raw own.0 theirs.0 c.lists_rows.ensures x.left) c.if-lists_rows.branch,
+          (λ x. rows_same _ _ _ _ _ _ l.i l.used l.gone (part_place empty_entry a.list a.from a.n l.i l.invariant.1 h) (part_place empty_entry a.other a.from a.n l.i l.invariant.2 h) (omega arith) (omega arith) c.entry.ensures c.if-not-entry.false-raw own.0 theirs.0 c.lists_rows.ensures x.0.taken x.1.ensures x.2.left)
+          (λ x. entry_passed _ _ _ _ _ _ l.i l.used l.gone (part_place empty_entry a.list a.from a.n l.i l.invariant.1 h) (part_place empty_entry a.other a.from a.n l.i l.invariant.2 h) (omega arith) (omega arith) c.entry.ensures c.if-not-entry.false-raw own.0 theirs.0 c.lists_rows.ensures x.left) c.if-lists_rows.branch,
     )
 
 pub returns : goal.returns

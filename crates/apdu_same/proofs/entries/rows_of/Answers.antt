@@ -7,7 +7,7 @@ use Rattle.apdu_same.proofs.EntryLists.{rows_none_yet, rows_more, rows_whole}
 use Rattle.apdu_same.proofs.entries.rows_of.Goals as goal
 
 pub loop-i-init : goal.loop-i-init
-loop-i-init c = (omega arith, omega arith, rows_none_yet c.args.t1)
+loop-i-init c = (omega arith, omega arith, rows_none_yet c.args.list)
 
 pub offset_bounds-list-i : goal.offset_bounds-list-i
 offset_bounds-list-i c = omega arith
@@ -27,12 +27,12 @@ loop-i-smaller c = omega arith
 pub loop-i-preserved : goal.loop-i-preserved
 loop-i-preserved c =
     let l = c.loop-i in
-    let t : length c.args.t1 ≡ 32 = search (long, c.well-formed.0.1) in
+    let t : length c.args.list ≡ 32 = search (long, c.well-formed.0.1) in
     (omega arith, omega (arith, c.entry_rows-used.ensures.1), rows_more _ l.i refl c.entry_rows-used.ensures.0 (omega arith) l.invariant.2)
 
 pub returns : goal.returns
 returns c =
     let l = c.loop-i in
-    let t : length c.args.t1 ≡ 32 = search (long, c.well-formed.0.1) in
+    let t : length c.args.list ≡ 32 = search (long, c.well-formed.0.1) in
     let k = c.clamped-k.ensures in
     (rows_whole _ c.args.n l.i t (omega arith) l.invariant.2, omega arith)

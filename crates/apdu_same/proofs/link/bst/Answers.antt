@@ -16,4 +16,4 @@ pub returns : goal.returns
 returns c =
     let n : length c.args.list ≡ 32 = search (long, c.well-formed.1.1.0.1) in
     let m : length c.args.other ≡ 32 = search (long, c.well-formed.1.1.1.1.1.1.0.1) in
-    bst_same _ _ _ _ _ _ _ _ n m c.rows_of_lem.ensures.0 c.rows_of-2.ensures.0 (lead_more c.flag.ensures (lead_more refl (lead_last _ _ refl))) c.if-not-lead.false-raw c.applications_if-mandatory.ensures c.applications_if-second.ensures c.part_if.ensures
+    bst_same _ _ _ _ _ _ _ _ n m c.rows_of.ensures.0 c.rows_of-2.ensures.0 (lead_more c.flag.ensures (lead_more refl (lead_last _ _ refl))) c.if-not-lead.false-raw c.applications_if-mandatory.ensures c.applications_if-second.ensures c.part_if.ensures

@@ -9,14 +9,14 @@ use Rattle.apdu_same.proofs.rows.rows.Goals as goal
 
 pub returns-then-n-clamped : goal.returns-then-n-clamped
 returns-then-n-clamped c =
-    let t : length c.args.t2 ≡ 32 = search (long, c.well-formed.1.0.1) in
-    let u : length c.args.t6 ≡ 32 = search (long, c.well-formed.1.1.1.1.1.0.1) in
+    let t : length c.args.table ≡ 32 = search (rules, long) in
+    let u : length c.args.other ≡ 32 = search (rules, long) in
     rows_lengths _ _ _ _ (λ e. c.if-n-clamped.true (part_length _ c.args.first c.args.count t c.clamped-n.ensures.0 ∙ e ∙ sym (part_length _ c.args.from c.args.size u c.clamped.ensures.0)))
 
 pub loop-i-init : goal.loop-i-init
 loop-i-init c =
-    let t : length c.args.t2 ≡ 32 = search (long, c.well-formed.1.0.1) in
-    let u : length c.args.t6 ≡ 32 = search (long, c.well-formed.1.1.1.1.1.0.1) in
+    let t : length c.args.table ≡ 32 = search (rules, long) in
+    let u : length c.args.other ≡ 32 = search (rules, long) in
     (omega arith, part_length _ c.args.first c.args.count t c.clamped-n.ensures.0, c.if-n-clamped.false ∙ part_length _ c.args.from c.args.size u c.clamped.ensures.0, rows_all _ _ _ _)
 
 pub overflow_add-v : goal.overflow_add-v
@@ -42,7 +42,7 @@ returns-then-not-row c =
     let l = c.loop-i in
     let h = c.loop-i-test.true in
     let a = c.args in
-    sym (l.invariant.3 ∙ row_other _ _ _ _ l.i (part_place empty_row a.t2 a.first a.count l.i l.invariant.1 h) (part_place empty_row a.t6 a.from a.size l.i l.invariant.2 h) (omega arith) (omega arith) c.row.ensures c.if-not-row.true-raw)
+    sym (l.invariant.3 ∙ row_other _ _ _ _ l.i (part_place empty_row a.table a.first a.count l.i l.invariant.1 h) (part_place empty_row a.other a.from a.size l.i l.invariant.2 h) (omega arith) (omega arith) c.row.ensures c.if-not-row.true-raw)
 
 pub overflow_add-i : goal.overflow_add-i
 overflow_add-i c = omega arith
@@ -55,7 +55,7 @@ loop-i-preserved c =
     let l = c.loop-i in
     let h = c.loop-i-test.true in
     let a = c.args in
-    (omega arith, l.invariant.1, l.invariant.2, l.invariant.3 ∙ row_same _ _ _ _ l.i (part_place empty_row a.t2 a.first a.count l.i l.invariant.1 h) (part_place empty_row a.t6 a.from a.size l.i l.invariant.2 h) (omega arith) (omega arith) c.row.ensures c.if-not-row.false-raw)
+    (omega arith, l.invariant.1, l.invariant.2, l.invariant.3 ∙ row_same _ _ _ _ l.i (part_place empty_row a.table a.first a.count l.i l.invariant.1 h) (part_place empty_row a.other a.from a.size l.i l.invariant.2 h) (omega arith) (omega arith) c.row.ensures c.if-not-row.false-raw)
 
 pub returns : goal.returns
 returns c = let l = c.loop-i in sym (l.invariant.3 ∙ rows_none _ _ _ _ l.i (omega arith) (omega arith))

@@ -21,7 +21,7 @@ pub shape_of-out-then-depth-eq0 : goal.shape_of-out-then-depth-eq0
 shape_of-out-then-depth-eq0 c = c.loop-i.invariant.1
 
 pub returns-then-depth-eq0 : goal.returns-then-depth-eq0
-returns-then-depth-eq0 c = rows_closed c.args.s.now (take c.args.count (drop c.args.first c.args.t3)) c.loop-i.i c.loop-i.due c.loop-i.depth c.loop-i.invariant.4 c.if-depth-eq0.true
+returns-then-depth-eq0 c = rows_closed c.args.s.now (take c.args.count (drop c.args.first c.args.table)) c.loop-i.i c.loop-i.due c.loop-i.depth c.loop-i.invariant.4 c.if-depth-eq0.true
 
 pub overflow_add-row : goal.overflow_add-row
 overflow_add-row c = omega arith
@@ -75,7 +75,7 @@ pub loop-i-smaller-then-more-eq0 : goal.loop-i-smaller-then-more-eq0
 loop-i-smaller-then-more-eq0 c = omega arith
 
 pub loop-i-preserved-then-more-eq0 : goal.loop-i-preserved-then-more-eq0
-loop-i-preserved-then-more-eq0 c = let t : length c.args.t3 ≡ 32 = search (long, c.well-formed.1.1.0.1) in let l = c.loop-i.invariant in (omega arith, c.put_seam-p.auto.0 ∙ c.row_front-p.auto.0 ∙ l.1, omega (arith, c.Going-on.ensures.1), simp length-set l.3, rows_closing _ c.args.t3 c.args.first c.args.count c.loop-i.i c.loop-i.due c.loop-i.depth _ (omega (arith, part_length c.args.t3 c.args.first c.args.count t c.clamped-most.ensures.0, c.loop-i-test.true)) (omega arith) (omega arith) c.less.ensures l.4 c.row_front-p.ensures c.announces-more.ensures c.if-more-eq0.true c.put_seam-p.ensures _ c.Going-on.ensures.0)
+loop-i-preserved-then-more-eq0 c = let t : length c.args.table ≡ 32 = search (rules, long) in let l = c.loop-i.invariant in (omega arith, c.put_seam-p.auto.0 ∙ c.row_front-p.auto.0 ∙ l.1, omega (arith, c.Going-on.ensures.1), simp length-set l.3, rows_closing _ c.args.table c.args.first c.args.count c.loop-i.i c.loop-i.due c.loop-i.depth _ (omega (arith, part_length c.args.table c.args.first c.args.count t c.clamped-most.ensures.0, c.loop-i-test.true)) (omega arith) (omega arith) c.less.ensures l.4 c.row_front-p.ensures c.announces-more.ensures c.if-more-eq0.true c.put_seam-p.ensures _ c.Going-on.ensures.0)
 
 pub offset_bounds-due-depth-else-more-eq0 : goal.offset_bounds-due-depth-else-more-eq0
 offset_bounds-due-depth-else-more-eq0 c = omega arith
@@ -90,10 +90,10 @@ pub loop-i-smaller : goal.loop-i-smaller
 loop-i-smaller c = omega arith
 
 pub loop-i-preserved : goal.loop-i-preserved
-loop-i-preserved c = let t : length c.args.t3 ≡ 32 = search (long, c.well-formed.1.1.0.1) in let l = c.loop-i.invariant in (omega arith, c.row_front-p.auto.0 ∙ l.1, omega arith, simp length-set l.3, rows_opening _ c.args.t3 c.args.first c.args.count c.loop-i.i c.loop-i.due c.loop-i.depth _ (omega (arith, part_length c.args.t3 c.args.first c.args.count t c.clamped-most.ensures.0, c.loop-i-test.true)) (omega arith) (omega arith) c.less.ensures l.4 c.row_front-p.ensures c.announces-more.ensures c.if-more-eq0.false (omega arith))
+loop-i-preserved c = let t : length c.args.table ≡ 32 = search (rules, long) in let l = c.loop-i.invariant in (omega arith, c.row_front-p.auto.0 ∙ l.1, omega arith, simp length-set l.3, rows_opening _ c.args.table c.args.first c.args.count c.loop-i.i c.loop-i.due c.loop-i.depth _ (omega (arith, part_length c.args.table c.args.first c.args.count t c.clamped-most.ensures.0, c.loop-i-test.true)) (omega arith) (omega arith) c.less.ensures l.4 c.row_front-p.ensures c.announces-more.ensures c.if-more-eq0.false (omega arith))
 
 pub shape_of-out : goal.shape_of-out
 shape_of-out c = c.loop-i.invariant.1
 
 pub returns : goal.returns
-returns c = let t : length c.args.t3 ≡ 32 = search (long, c.well-formed.1.1.0.1) in rows_end c.args.s.now (take c.args.count (drop c.args.first c.args.t3)) c.loop-i.i c.loop-i.due c.loop-i.depth c.loop-i.invariant.4 (omega (arith, part_length c.args.t3 c.args.first c.args.count t c.clamped-most.ensures.0, c.loop-i-test.false))
+returns c = let t : length c.args.table ≡ 32 = search (rules, long) in rows_end c.args.s.now (take c.args.count (drop c.args.first c.args.table)) c.loop-i.i c.loop-i.due c.loop-i.depth c.loop-i.invariant.4 (omega (arith, part_length c.args.table c.args.first c.args.count t c.clamped-most.ensures.0, c.loop-i-test.false))

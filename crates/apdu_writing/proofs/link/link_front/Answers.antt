@@ -4,10 +4,10 @@ use Rattle.apdu_writing.proofs.Links.{is_bst, is_vst, is_other}
 use Rattle.apdu_writing.proofs.link.link_front.Goals as goal
 
 pub returns-in-Bst : goal.returns-in-Bst
-returns-in-Bst c = is_bst c.m-1.given.1 c.bst_front.ensures
+returns-in-Bst c = is_bst c.in-Bst.is c.bst_front.ensures
 
 pub returns-in-Vst : goal.returns-in-Vst
-returns-in-Vst c = is_vst c.m-in-Vst-1.given.1 c.vst_front.ensures
+returns-in-Vst c = is_vst c.in-Vst.is c.vst_front.ensures
 
 pub returns-in_default : goal.returns-in_default
-returns-in_default c = is_other c.in_default.keys3
+returns-in_default c = is_other c.in_default.in_default-own.keys3

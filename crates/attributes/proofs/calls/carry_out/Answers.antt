@@ -6,44 +6,44 @@ use Rattle.attributes.proofs.Outcomes.{carried_echo, carried_set, carried_get}
 use Rattle.attributes.proofs.calls.carry_out.Goals as goal
 
 pub set-requires : goal.set-requires
-set-requires c = (fits_set c.requires.0 c.m-in-SetRequest-1.given.1, sound_short _ _ _ c.requires.1)
+set-requires c = (fits_set c.requires.0 c.in-SetRequest.is, sound_short _ _ _ c.requires.1)
 
 pub get-requires : goal.get-requires
-get-requires c = (fits_get c.requires.0 c.m-in-GetRequest-1.given.1, c.requires.1)
+get-requires c = (fits_get c.requires.0 c.in-GetRequest.is, c.requires.1)
 
 pub returns-in-ActionRequest : goal.returns-in-ActionRequest
-returns-in-ActionRequest c = carried_echo _ _ _ _ _ _ _ _ _ c.m-1.given.1 c.echo.ensures
+returns-in-ActionRequest c = carried_echo _ _ _ _ _ _ _ _ _ c.in-ActionRequest.is c.echo.ensures
 
 pub returns-in-ActionResponse : goal.returns-in-ActionResponse
 unfolding carried told_of
-returns-in-ActionResponse c = rw (c.enum_told-1.given.1, c.not_served.ensures)
+returns-in-ActionResponse c = rw (c.in-ActionResponse.is, c.not_served.ensures)
 
 pub returns-in-EventRequest : goal.returns-in-EventRequest
 unfolding carried told_of
-returns-in-EventRequest c = rw (c.enum_told-in-EventRequest-1.given.1, c.not_served-in-EventRequest.ensures)
+returns-in-EventRequest c = rw (c.in-EventRequest.is, c.not_served-in-EventRequest.ensures)
 
 pub returns-in-EventResponse : goal.returns-in-EventResponse
 unfolding carried told_of
-returns-in-EventResponse c = rw (c.enum_told-in-EventResponse-1.given.1, c.not_served-in-EventResponse.ensures)
+returns-in-EventResponse c = rw (c.in-EventResponse.is, c.not_served-in-EventResponse.ensures)
 
 pub returns-in-SetRequest : goal.returns-in-SetRequest
-returns-in-SetRequest c = carried_set _ _ _ _ _ _ _ _ _ c.m-in-SetRequest-1.given.1 c.set.ensures
+returns-in-SetRequest c = carried_set _ _ _ _ _ _ _ _ _ c.in-SetRequest.is c.set.ensures
 
 pub returns-in-SetResponse : goal.returns-in-SetResponse
 unfolding carried told_of
-returns-in-SetResponse c = rw (c.enum_told-in-SetResponse-1.given.1, c.not_served-in-SetResponse.ensures)
+returns-in-SetResponse c = rw (c.in-SetResponse.is, c.not_served-in-SetResponse.ensures)
 
 pub returns-in-GetRequest : goal.returns-in-GetRequest
-returns-in-GetRequest c = carried_get _ _ _ _ _ _ _ _ _ c.m-in-GetRequest-1.given.1 c.get.ensures
+returns-in-GetRequest c = carried_get _ _ _ _ _ _ _ _ _ c.in-GetRequest.is c.get.ensures
 
 pub returns-in-GetResponse : goal.returns-in-GetResponse
 unfolding carried told_of
-returns-in-GetResponse c = rw (c.enum_told-in-GetResponse-1.given.1, c.not_served-in-GetResponse.ensures)
+returns-in-GetResponse c = rw (c.in-GetResponse.is, c.not_served-in-GetResponse.ensures)
 
 pub returns-in-Bst : goal.returns-in-Bst
 unfolding carried told_of
-returns-in-Bst c = rw (c.enum_told-in-Bst-1.given.1, c.not_served-in-Bst.ensures)
+returns-in-Bst c = rw (c.in-Bst.is, c.not_served-in-Bst.ensures)
 
 pub returns-in-Vst : goal.returns-in-Vst
 unfolding carried told_of
-returns-in-Vst c = rw (c.enum_told-in-Vst-1.given.1, c.not_served-in-Vst.ensures)
+returns-in-Vst c = rw (c.in-Vst.is, c.not_served-in-Vst.ensures)

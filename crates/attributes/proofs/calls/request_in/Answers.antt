@@ -12,13 +12,13 @@ pub returns-then-not-sound_in : goal.returns-then-not-sound_in
 returns-then-not-sound_in c = answered_26 _ _ _ _ c.read-reading.ensures.answer c.if-out-lt-LEAST_OUTPUT.false c.sound_in.ensures c.if-not-sound_in.true-raw
 
 pub returns-then-not-is_served : goal.returns-then-not-is_served
-returns-then-not-is_served c = answered_24 _ _ _ _ c.read-reading.ensures.answer c.if-out-lt-LEAST_OUTPUT.false c.sound_in.ensures c.if-not-sound_in.false-raw c.answer-in-Message-1.given.1 c.is_served.ensures c.if-not-is_served.true-raw c.not_served.ensures
+returns-then-not-is_served c = answered_24 _ _ _ _ c.read-reading.ensures.answer c.if-out-lt-LEAST_OUTPUT.false c.sound_in.ensures c.if-not-sound_in.false-raw c.in-Message.is c.is_served.ensures c.if-not-is_served.true-raw c.not_served.ensures
 
 pub carry_out-requires : goal.carry_out-requires
-carry_out-requires c = (read_fits _ _ c.read-reading.ensures.answer c.answer-in-Message-1.given.1, sym c.sound_in.ensures ∙ not-false _ c.if-not-sound_in.false-raw)
+carry_out-requires c = (read_fits _ _ c.read-reading.ensures.answer c.in-Message.is, sym c.sound_in.ensures ∙ not-false _ c.if-not-sound_in.false-raw)
 
 pub returns-in-Refused : goal.returns-in-Refused
-returns-in-Refused c = answered_read _ _ _ _ c.read-reading.ensures.answer c.if-out-lt-LEAST_OUTPUT.false c.sound_in.ensures c.if-not-sound_in.false-raw c.answer-1.given.1
+returns-in-Refused c = answered_read _ _ _ _ c.read-reading.ensures.answer c.if-out-lt-LEAST_OUTPUT.false c.sound_in.ensures c.if-not-sound_in.false-raw c.in-Refused.is
 
 pub returns-else-not-is_served : goal.returns-else-not-is_served
-returns-else-not-is_served c = answered_served _ _ _ _ c.read-reading.ensures.answer c.if-out-lt-LEAST_OUTPUT.false c.sound_in.ensures c.if-not-sound_in.false-raw c.answer-in-Message-1.given.1 c.is_served.ensures c.if-not-is_served.false-raw _ c.carry_out.ensures
+returns-else-not-is_served c = answered_served _ _ _ _ c.read-reading.ensures.answer c.if-out-lt-LEAST_OUTPUT.false c.sound_in.ensures c.if-not-sound_in.false-raw c.in-Message.is c.is_served.ensures c.if-not-is_served.false-raw _ c.carry_out.ensures

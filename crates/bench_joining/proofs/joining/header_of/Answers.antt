@@ -10,14 +10,14 @@ pub overflow_sub-result : goal.overflow_sub-result
 unfolding read_answer
 overflow_sub-result c =
     let s = c.args.lsdu.now in
-    let read = sym (ap read_answer c.header-1.given.1) ∙ c.read.ensures.answer in
+    let read = sym (ap read_answer c.in-Fields.is) ∙ c.read.ensures.answer in
     fields_in s _ _ read
 
 pub returns-in-Fields : goal.returns-in-Fields
 unfolding read_answer headed_by
 returns-in-Fields c =
     let s = c.args.lsdu.now in
-    let read = sym (ap read_answer c.header-1.given.1) ∙ c.read.ensures.answer in
+    let read = sym (ap read_answer c.in-Fields.is) ∙ c.read.ensures.answer in
     let fields = fields_are s _ _ read in
     λ i. record { number = (fields i).number; payload = (fields i).octets }
 
@@ -25,6 +25,6 @@ pub returns-in-Refused : goal.returns-in-Refused
 unfolding read_answer headed_by
 returns-in-Refused c =
     let s = c.args.lsdu.now in
-    let read = sym (ap read_answer c.enum_told-1.given.1) ∙ c.read.ensures.answer in
+    let read = sym (ap read_answer c.in-Refused.is) ∙ c.read.ensures.answer in
     let fields = fields_none s _ read in
     λ i. record { number = (fields i).number; payload = (fields i).octets }

@@ -5,8 +5,8 @@ use Rattle.bench_joining.proofs.joining.take_line.Goals as goal
 
 pub returns-in-Fields : goal.returns-in-Fields
 returns-in-Fields c =
-    line_joined _ _ _ _ _ _ _ _ _ _ c.read_line.ensures.answer _ _ _ _ c.lid-1.given.1 c.front.ensures c.join.ensures
+    line_joined _ _ _ _ _ _ _ _ _ _ c.read_line.ensures.answer _ _ _ _ c.in-Fields.is c.front.ensures c.join.ensures
 
 pub returns-in-Refused : goal.returns-in-Refused
 returns-in-Refused c =
-    line_refused _ _ _ _ _ _ _ _ _ _ c.read_line.ensures.answer _ c.number-1.given.1 refl c.no_octets.ensures refl refl
+    line_refused _ _ _ _ _ _ _ _ _ _ c.read_line.ensures.answer _ c.in-Refused.is refl c.no_octets.ensures refl refl

@@ -7,7 +7,7 @@ use Rattle.bench_lines.proofs.text.append_answer.Goals as goal
 pub returns-then-not-has_room : goal.returns-then-not-has_room
 returns-then-not-has_room c =
     no_room _ _ _ c.has_room.ensures
-    (length_line c.args.line c.args.answer c.args.octets c.args.dropped c.width_of_lem.ensures.0 c.answer_octets.ensures.0 c.width_of-2.ensures.0 c.width_of-3.ensures.0)
+    (length_line c.args.line c.args.answer c.args.octets c.args.dropped c.width_of.ensures.0 c.answer_octets.ensures.0 c.width_of-2.ensures.0 c.width_of-3.ensures.0)
     c.if-not-has_room.true-raw
 
 pub put_number-second-requires : goal.put_number-second-requires
@@ -18,7 +18,7 @@ put_number-second-requires c =
       length_number c.args.line 32,
       length_number c.args.octets 32,
       length_number c.args.dropped 10,
-      c.width_of_lem.ensures.0,
+      c.width_of.ensures.0,
       c.answer_octets.ensures.0,
       c.width_of-2.ensures.0,
       c.width_of-3.ensures.0,
@@ -33,7 +33,7 @@ put_answer-third-requires c =
       length_number c.args.octets 32,
       length_number c.args.dropped 10,
       c.put_number-second.ensures.place,
-      c.width_of_lem.ensures.0,
+      c.width_of.ensures.0,
       c.answer_octets.ensures.0,
       c.width_of-2.ensures.0,
       c.width_of-3.ensures.0,
@@ -49,7 +49,7 @@ put_number-fourth-requires c =
       length_number c.args.dropped 10,
       c.put_number-second.ensures.place,
       c.put_answer-third.ensures.place,
-      c.width_of_lem.ensures.0,
+      c.width_of.ensures.0,
       c.answer_octets.ensures.0,
       c.width_of-2.ensures.0,
       c.width_of-3.ensures.0,
@@ -66,7 +66,7 @@ put_number-requires c =
       c.put_number-second.ensures.place,
       c.put_answer-third.ensures.place,
       c.put_number-fourth.ensures.place,
-      c.width_of_lem.ensures.0,
+      c.width_of.ensures.0,
       c.answer_octets.ensures.0,
       c.width_of-2.ensures.0,
       c.width_of-3.ensures.0,
@@ -76,5 +76,5 @@ pub returns : goal.returns
 unfolding answer_line_text
 returns c =
     four_appended _ _ _ _ _ _ c.has_room.ensures
-    (length_line c.args.line c.args.answer c.args.octets c.args.dropped c.width_of_lem.ensures.0 c.answer_octets.ensures.0 c.width_of-2.ensures.0 c.width_of-3.ensures.0)
+    (length_line c.args.line c.args.answer c.args.octets c.args.dropped c.width_of.ensures.0 c.answer_octets.ensures.0 c.width_of-2.ensures.0 c.width_of-3.ensures.0)
     c.if-not-has_room.false-raw c.put_number-second.ensures c.put_answer-third.ensures c.put_number-fourth.ensures c.put_number.ensures

@@ -7,7 +7,7 @@ use Rattle.bench_lines.proofs.text.append_totals.Goals as goal
 pub returns-then-not-has_room : goal.returns-then-not-has_room
 returns-then-not-has_room c =
     no_room _ _ _ c.has_room.ensures
-    (length_totals c.args.totals c.width_of_lem.ensures.0 c.width_of-2.ensures.0 c.width_of-3.ensures.0 c.width_of-4.ensures.0)
+    (length_totals c.args.totals c.width_of.ensures.0 c.width_of-2.ensures.0 c.width_of-3.ensures.0 c.width_of-4.ensures.0)
     c.if-not-has_room.true-raw
 
 pub put_named-second-requires : goal.put_named-second-requires
@@ -16,7 +16,7 @@ put_named-second-requires c =
       arith,
       room_found _ _ _ c.has_room.ensures c.if-not-has_room.false-raw,
       length_named accepted_word c.args.totals.accepted 32,
-      c.width_of_lem.ensures.0,
+      c.width_of.ensures.0,
       c.width_of-2.ensures.0,
       c.width_of-3.ensures.0,
       c.width_of-4.ensures.0,
@@ -30,7 +30,7 @@ put_named-third-requires c =
       length_named accepted_word c.args.totals.accepted 32,
       length_named delivered_word c.args.totals.delivered 32,
       c.put_named-second.ensures.place,
-      c.width_of_lem.ensures.0,
+      c.width_of.ensures.0,
       c.width_of-2.ensures.0,
       c.width_of-3.ensures.0,
       c.width_of-4.ensures.0,
@@ -46,7 +46,7 @@ put_named-fourth-requires c =
       length_named dropped_word c.args.totals.dropped 32,
       c.put_named-second.ensures.place,
       c.put_named-third.ensures.place,
-      c.width_of_lem.ensures.0,
+      c.width_of.ensures.0,
       c.width_of-2.ensures.0,
       c.width_of-3.ensures.0,
       c.width_of-4.ensures.0,
@@ -64,7 +64,7 @@ put_named-requires c =
       c.put_named-second.ensures.place,
       c.put_named-third.ensures.place,
       c.put_named-fourth.ensures.place,
-      c.width_of_lem.ensures.0,
+      c.width_of.ensures.0,
       c.width_of-2.ensures.0,
       c.width_of-3.ensures.0,
       c.width_of-4.ensures.0,
@@ -74,5 +74,5 @@ pub returns : goal.returns
 unfolding totals_text
 returns c =
     four_appended _ _ _ _ _ _ c.has_room.ensures
-    (length_totals c.args.totals c.width_of_lem.ensures.0 c.width_of-2.ensures.0 c.width_of-3.ensures.0 c.width_of-4.ensures.0)
+    (length_totals c.args.totals c.width_of.ensures.0 c.width_of-2.ensures.0 c.width_of-3.ensures.0 c.width_of-4.ensures.0)
     c.if-not-has_room.false-raw c.put_named-second.ensures c.put_named-third.ensures c.put_named-fourth.ensures c.put_named.ensures

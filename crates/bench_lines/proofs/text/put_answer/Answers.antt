@@ -6,19 +6,19 @@ use Rattle.bench_lines.proofs.Appending.{held_text, whole_text, refused_text, pl
 use Rattle.bench_lines.proofs.text.put_answer.Goals as goal
 
 pub put_word-requires : goal.put_word-requires
-put_word-requires c = omega (arith, ap length (held_text c.enum_told-1.given.1))
+put_word-requires c = omega (arith, ap length (held_text c.in-Held.is))
 
 pub put_word-requires-in-Whole : goal.put_word-requires-in-Whole
-put_word-requires-in-Whole c = omega (arith, ap length (whole_text c.enum_told-in-Whole-1.given.1))
+put_word-requires-in-Whole c = omega (arith, ap length (whole_text c.in-Whole.is))
 
 pub put_named-requires : goal.put_named-requires
-put_named-requires c = omega (arith, ap length (refused_text c.answer-1.given.1))
+put_named-requires c = omega (arith, ap length (refused_text c.in-Refused.is))
 
 pub returns-in-Held : goal.returns-in-Held
-returns-in-Held c = placed_as (held_text c.enum_told-1.given.1) c.put_word.ensures
+returns-in-Held c = placed_as (held_text c.in-Held.is) c.put_word.ensures
 
 pub returns-in-Whole : goal.returns-in-Whole
-returns-in-Whole c = placed_as (whole_text c.enum_told-in-Whole-1.given.1) c.put_word-in-Whole.ensures
+returns-in-Whole c = placed_as (whole_text c.in-Whole.is) c.put_word-in-Whole.ensures
 
 pub returns-in-Refused : goal.returns-in-Refused
-returns-in-Refused c = placed_as (refused_text c.answer-1.given.1) c.put_named.ensures
+returns-in-Refused c = placed_as (refused_text c.in-Refused.is) c.put_named.ensures

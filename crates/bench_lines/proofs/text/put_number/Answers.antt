@@ -11,4 +11,4 @@ bounds-out-at c = omega (arith, length_number c.args.n c.args.end)
 
 pub returns : goal.returns
 returns c =
-    number_placed _ _ _ _ c.width_of_lem.ensures.0 c.put_digits.ensures (omega (arith, length_number c.args.n c.args.end))
+    number_placed _ _ _ _ c.width_of-k.ensures.0 c.put_digits.ensures (omega (arith, length_number c.args.n c.args.end))

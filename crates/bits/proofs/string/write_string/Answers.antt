@@ -56,7 +56,7 @@ loop-k-preserved c =
     let l = c.loop-k in
     let h = inside_le _ _ _ (found_inside _ _ _ c.inside-2.ensures c.if-not-inside-2.false-raw) in (
       omega arith,
-      omega (arith, c.put_field.auto.0, l.invariant.1),
+      omega (arith, c.put_field.auto.out, l.invariant.1),
       written_more _ _ _ _ l.k l.invariant.2 (next_octet _ _ _ c.string_octet-o.ensures) c.put_field.ensures (omega (arith, h)),
     )
 

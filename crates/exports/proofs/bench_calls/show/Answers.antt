@@ -7,9 +7,9 @@ use Rattle.exports.proofs.bench_calls.show.Goals as goal
 pub returns-in-Next : goal.returns-in-Next
 returns-in-Next c =
     let short = line_short c.args.number c.args.answer c.args.octets c.args.dropped (omega arith) (omega arith) (omega arith) c.requires.1 in
-    shown_next c.args.text.now _ (answer_line_text c.args.number c.args.answer c.args.octets c.args.dropped) c.append_answer.result c.append_answer.ensures (omega (arith, short, c.requires.0)) short _ c.n-1.given.1
+    shown_next c.args.text.now _ (answer_line_text c.args.number c.args.answer c.args.octets c.args.dropped) c.append_answer.result c.append_answer.ensures (omega (arith, short, c.requires.0)) short _ c.in-Next.is
 
 pub returns-in-Refused : goal.returns-in-Refused
 returns-in-Refused c =
     let short = line_short c.args.number c.args.answer c.args.octets c.args.dropped (omega arith) (omega arith) (omega arith) c.requires.1 in
-    absurd (shown_never c.args.text.now _ (answer_line_text c.args.number c.args.answer c.args.octets c.args.dropped) c.append_answer.result c.append_answer.ensures (omega (arith, short, c.requires.0)) short _ c.enum_told-1.given.1)
+    absurd (shown_never c.args.text.now _ (answer_line_text c.args.number c.args.answer c.args.octets c.args.dropped) c.append_answer.result c.append_answer.ensures (omega (arith, short, c.requires.0)) short _ c.in-Refused.is)

@@ -5,7 +5,7 @@ use Rattle.exports.proofs.bench_calls.take.Goals as goal
 
 pub returns-in-Fields : goal.returns-in-Fields
 returns-in-Fields c =
-    read_put _ _ _ _ c.read_line.ensures.answer refl _ _ _ _ _ _ _ _ _ _ _ c.lid-1.given.1 c.front.ensures c.join.ensures
+    read_put _ _ _ _ c.read_line.ensures.answer refl _ _ _ _ _ _ _ _ _ _ _ c.in-Fields.is c.front.ensures c.join.ensures
 
 pub returns-in-Refused : goal.returns-in-Refused
-returns-in-Refused c = refused_put _ _ _ _ c.read_line.ensures.answer refl _ _ _ _ _ c.number-1.given.1 c.no_octets.ensures
+returns-in-Refused c = refused_put _ _ _ _ c.read_line.ensures.answer refl _ _ _ _ _ c.in-Refused.is c.no_octets.ensures

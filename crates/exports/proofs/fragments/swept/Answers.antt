@@ -8,9 +8,9 @@ use Rattle.exports.proofs.fragments.swept.Goals as goal
 pub returns-in-Dropped : goal.returns-in-Dropped
 unfolding is_swept sweep_number kept_table
 returns-in-Dropped c =
-    swept_put c.args.table.now c.args.res _ _ _ c.answer-1.given.1 c.packed.ensures.answer c.put_table.ensures.answer
+    swept_put c.args.table.now c.args.res _ _ _ c.in-Dropped.is c.packed.ensures.answer c.put_table.ensures.answer
 
 pub returns-in-Refused : goal.returns-in-Refused
 unfolding is_swept sweep_number kept_table
 returns-in-Refused c =
-    swept_put c.args.table.now c.args.res _ _ _ c.answer-in-Refused-1.given.1 c.packed-in-Refused.ensures.answer refl
+    swept_put c.args.table.now c.args.res _ _ _ c.in-Refused.is c.packed-in-Refused.ensures.answer refl

@@ -5,12 +5,12 @@ use Rattle.exports.proofs.fragments.taken.Goals as goal
 
 pub returns-in-Held : goal.returns-in-Held
 unfolding is_taken
-returns-in-Held c = sym (ap is_taken c.answer-1.given.1)
+returns-in-Held c = sym (ap is_taken c.in-Held.is)
 
 pub returns-in-Whole : goal.returns-in-Whole
 unfolding is_taken
-returns-in-Whole c = sym (ap is_taken c.answer-in-Whole-1.given.1)
+returns-in-Whole c = sym (ap is_taken c.in-Whole.is)
 
 pub returns-in-Refused : goal.returns-in-Refused
 unfolding is_taken
-returns-in-Refused c = sym (ap is_taken c.enum_told-1.given.1)
+returns-in-Refused c = sym (ap is_taken c.in-Refused.is)

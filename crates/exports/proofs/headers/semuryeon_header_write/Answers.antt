@@ -13,7 +13,7 @@ unfolding header_from written_number write_answer
 returns-in-Octets c =
     let header : _ ≡ header_from c.args.last c.args.number c.args.counter =
     λ i. record { last = not (eqb c.args.last 0); number = c.narrow.ensures i; counter = c.args.counter } in
-    let told = c.packed.ensures.answer ∙ sym (ap (λ (x : HeaderWritten). written_number (write_answer x)) c.n-1.given.1) in
+    let told = c.packed.ensures.answer ∙ sym (ap (λ (x : HeaderWritten). written_number (write_answer x)) c.in-Octets.is) in
     let written =
     written_by (header_from c.args.last c.args.number c.args.counter) _ c.args.out.now _ _ c.write.result header c.write.ensures.answer told in
  record { answer = written; unpacking = unpacking_written; large_number = large_number }
@@ -23,7 +23,7 @@ unfolding header_from written_number write_answer
 returns-in-Refused c =
     let header : _ ≡ header_from c.args.last c.args.number c.args.counter =
     λ i. record { last = not (eqb c.args.last 0); number = c.narrow.ensures i; counter = c.args.counter } in
-    let told = c.packed-in-Refused.ensures.answer ∙ sym (ap (λ (x : HeaderWritten). written_number (write_answer x)) c.k-1.given.1) in
+    let told = c.packed-in-Refused.ensures.answer ∙ sym (ap (λ (x : HeaderWritten). written_number (write_answer x)) c.in-Refused.is) in
     let written =
     written_by (header_from c.args.last c.args.number c.args.counter) _ c.args.out.now _ _ c.write.result header c.write.ensures.answer told in
  record { answer = written; unpacking = unpacking_written; large_number = large_number }

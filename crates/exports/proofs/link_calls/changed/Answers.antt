@@ -5,8 +5,8 @@ use Rattle.exports.proofs.link_calls.changed.Goals as goal
 
 pub returns-in-Done : goal.returns-in-Done
 unfolding change_number change_words
-returns-in-Done c = rw c.enum_told-1.given.1 (c.packed.ensures.answer, c.put_link.ensures.answer)
+returns-in-Done c = rw c.in-Done.is (c.packed.ensures.answer, c.put_link.ensures.answer)
 
 pub returns-in-Refused : goal.returns-in-Refused
 unfolding change_number change_words
-returns-in-Refused c = rw c.answer-1.given.1 (c.packed-in-Refused.ensures.answer, refl)
+returns-in-Refused c = rw c.in-Refused.is (c.packed-in-Refused.ensures.answer, refl)

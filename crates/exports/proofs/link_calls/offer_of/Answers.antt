@@ -2,4 +2,4 @@
 use Rattle.exports.proofs.link_calls.offer_of.Goals as goal
 
 pub returns-in-Bst : goal.returns-in-Bst
-returns-in-Bst c = rw c.m-1.given.1
+returns-in-Bst c = rw c.in-Bst.is

@@ -5,12 +5,12 @@ use Rattle.exports.proofs.link_calls.replied.Goals as goal
 
 pub returns-in-Silent : goal.returns-in-Silent
 unfolding reply_number reply_words
-returns-in-Silent c = rw c.enum_told-1.given.1 (c.packed.ensures.answer, c.put_link.ensures.answer)
+returns-in-Silent c = rw c.in-Silent.is (c.packed.ensures.answer, c.put_link.ensures.answer)
 
 pub returns-in-Vst : goal.returns-in-Vst
 unfolding reply_number reply_words
-returns-in-Vst c = rw c.answer-1.given.1 (c.packed-in-Vst.ensures.answer, c.put_link-in-Vst.ensures.answer)
+returns-in-Vst c = rw c.in-Vst.is (c.packed-in-Vst.ensures.answer, c.put_link-in-Vst.ensures.answer)
 
 pub returns-in-Refused : goal.returns-in-Refused
 unfolding reply_number reply_words
-returns-in-Refused c = rw c.answer-in-Refused-1.given.1 (c.packed-in-Refused.ensures.answer, refl)
+returns-in-Refused c = rw c.in-Refused.is (c.packed-in-Refused.ensures.answer, refl)

@@ -5,10 +5,10 @@ use Rattle.exports.proofs.LinkNumbers.{unpacking_bst}
 use Rattle.exports.proofs.link_calls.semuryeon_link_bst.Goals as goal
 
 pub returns-in-Refused : goal.returns-in-Refused
-returns-in-Refused c = record { answer = bst_refused _ _ _ c.read-reading.ensures.answer _ _ c.answer-1.given.1 c.packed.ensures.answer; unpacking = unpacking_bst; kept = kept_heard }
+returns-in-Refused c = record { answer = bst_refused _ _ _ c.read-reading.ensures.answer _ _ c.in-Refused.is c.packed.ensures.answer; unpacking = unpacking_bst; kept = kept_heard }
 
 pub returns-in-Other : goal.returns-in-Other
-returns-in-Other c = record { answer = bst_other _ _ _ c.read-reading.ensures.answer _ _ c.answer-in-Message-1.given.1 c.offer_of-offer.ensures c.enum_told-1.given.1 c.packed-in-Other.ensures.answer; unpacking = unpacking_bst; kept = kept_heard }
+returns-in-Other c = record { answer = bst_other _ _ _ c.read-reading.ensures.answer _ _ c.in-Message.is c.offer_of-offer.ensures c.in-Other.is c.packed-in-Other.ensures.answer; unpacking = unpacking_bst; kept = kept_heard }
 
 pub returns-in-Offered : goal.returns-in-Offered
-returns-in-Offered c = record { answer = bst_heard _ _ _ c.read-reading.ensures.answer _ _ c.answer-in-Message-1.given.1 c.offer_of-offer.ensures _ c.offer-1.given.1 c.hear.ensures; unpacking = unpacking_bst; kept = kept_heard }
+returns-in-Offered c = record { answer = bst_heard _ _ _ c.read-reading.ensures.answer _ _ c.in-Message.is c.offer_of-offer.ensures _ c.in-Offered.is c.hear.ensures; unpacking = unpacking_bst; kept = kept_heard }

@@ -5,8 +5,8 @@ use Rattle.exports.proofs.messages.rewritten.Goals as goal
 
 pub returns-in-Refused : goal.returns-in-Refused
 unfolding written_number answer_of
-returns-in-Refused c = rw c.answer-1.given.1 c.packed.ensures.answer
+returns-in-Refused c = rw c.in-Refused.is c.packed.ensures.answer
 
 pub returns-in-Written : goal.returns-in-Written
 unfolding written_number answer_of
-returns-in-Written c = rw c.answer-in-Written-1.given.1 c.written.ensures
+returns-in-Written c = rw c.in-Written.is c.written.ensures

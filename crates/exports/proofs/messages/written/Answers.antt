@@ -5,16 +5,16 @@ use Rattle.exports.proofs.messages.written.Goals as goal
 
 pub returns-in-RecordOutOfRange : goal.returns-in-RecordOutOfRange
 unfolding written_number answer_of
-returns-in-RecordOutOfRange c = rw c.enum_told-1.given.1 c.packed.ensures.answer
+returns-in-RecordOutOfRange c = rw c.in-RecordOutOfRange.is c.packed.ensures.answer
 
 pub returns-in-MessageTooLong : goal.returns-in-MessageTooLong
 unfolding written_number answer_of
-returns-in-MessageTooLong c = rw c.w-1.given.1 c.packed-in-MessageTooLong.ensures.answer
+returns-in-MessageTooLong c = rw c.in-MessageTooLong.is c.packed-in-MessageTooLong.ensures.answer
 
 pub returns-in-OutputTooSmall : goal.returns-in-OutputTooSmall
 unfolding written_number answer_of
-returns-in-OutputTooSmall c = rw c.enum_told-in-OutputTooSmall-1.given.1 c.packed-in-OutputTooSmall.ensures.answer
+returns-in-OutputTooSmall c = rw c.in-OutputTooSmall.is c.packed-in-OutputTooSmall.ensures.answer
 
 pub returns-in-Octets : goal.returns-in-Octets
 unfolding written_number answer_of
-returns-in-Octets c = rw c.w-in-Octets-1.given.1 c.packed-in-Octets.ensures.answer
+returns-in-Octets c = rw c.in-Octets.is c.packed-in-Octets.ensures.answer

@@ -2,13 +2,13 @@
 use Rattle.exports.proofs.strings.credentials_of.Goals as goal
 
 pub returns-in-ActionRequest : goal.returns-in-ActionRequest
-returns-in-ActionRequest c = rw c.m-1.given.1 c.string_part.ensures
+returns-in-ActionRequest c = rw c.in-ActionRequest.is c.string_part.ensures
 
 pub returns-in-EventRequest : goal.returns-in-EventRequest
-returns-in-EventRequest c = rw c.m-in-EventRequest-1.given.1 c.string_part-in-EventRequest.ensures
+returns-in-EventRequest c = rw c.in-EventRequest.is c.string_part-in-EventRequest.ensures
 
 pub returns-in-SetRequest : goal.returns-in-SetRequest
-returns-in-SetRequest c = rw c.m-in-SetRequest-1.given.1 c.string_part-in-SetRequest.ensures
+returns-in-SetRequest c = rw c.in-SetRequest.is c.string_part-in-SetRequest.ensures
 
 pub returns-in-GetRequest : goal.returns-in-GetRequest
-returns-in-GetRequest c = rw c.m-in-GetRequest-1.given.1 c.string_part-in-GetRequest.ensures
+returns-in-GetRequest c = rw c.in-GetRequest.is c.string_part-in-GetRequest.ensures

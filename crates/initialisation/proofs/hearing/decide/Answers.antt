@@ -4,4 +4,4 @@ use Rattle.std.proofs.Common.{sym}
 use Rattle.initialisation.proofs.hearing.decide.Goals as goal
 
 pub returns-in-Taken-pair : goal.returns-in-Taken-pair
-returns-in-Taken-pair c = sym (rw (c.if-known.false, c.profile-1.given.1, c.pair-1.given.1))
+returns-in-Taken-pair c = sym (rw (c.if-known.false, c.in-Taken.is, c.in-Taken-pair.is))

@@ -27,15 +27,15 @@ choose-decision-requires c = choosable (brought c) (sym (refused-is c) ∙ c.if-
 pub send-octets-requires : goal.send-octets-requires
 send-octets-requires c =
     let h = sym (refused-is c) ∙ c.if-number-ne0.false in
-    let t : Taken = record { profile = c.decision-1.given.0.0; element = c.decision-1.given.0.1.0 } in
-    let k = sendable (brought c) t h (sym (ap decision_in c.decision-1.given.1) ∙ c.choose-decision.ensures) in
+    let t : Taken = record { profile = c.in-Start.profile; element = c.in-Start.element } in
+    let k = sendable (brought c) t h (sym (ap decision_in c.in-Start.is) ∙ c.choose-decision.ensures) in
     (k.served, k.sound, k.ranges, (checked (brought c) h).room)
 
 pub returns-in-Stay : goal.returns-in-Stay
-returns-in-Stay c = record { gives = silent_gives (brought c) (sym (refused-is c) ∙ c.if-number-ne0.false) (sym (ap decision_in c.enum_told-1.given.1) ∙ c.choose-decision.ensures) c.waken.ensures c.silent.ensures; hears = hears _ }
+returns-in-Stay c = record { gives = silent_gives (brought c) (sym (refused-is c) ∙ c.if-number-ne0.false) (sym (ap decision_in c.in-Stay.is) ∙ c.choose-decision.ensures) c.waken.ensures c.silent.ensures; hears = hears _ }
 
 pub returns-in-Start : goal.returns-in-Start
 returns-in-Start c =
     let h = sym (refused-is c) ∙ c.if-number-ne0.false in
-    let t : Taken = record { profile = c.decision-1.given.0.0; element = c.decision-1.given.0.1.0 } in
- record { gives = started_gives (brought c) h t (sym (ap decision_in c.decision-1.given.1) ∙ c.choose-decision.ensures) c.beacon_of.ensures c.send-octets.ensures c.started.ensures; hears = hears _ }
+    let t : Taken = record { profile = c.in-Start.profile; element = c.in-Start.element } in
+ record { gives = started_gives (brought c) h t (sym (ap decision_in c.in-Start.is) ∙ c.choose-decision.ensures) c.beacon_of.ensures c.send-octets.ensures c.started.ensures; hears = hears _ }

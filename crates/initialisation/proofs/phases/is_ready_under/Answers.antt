@@ -5,4 +5,4 @@ use Rattle.initialisation.specs.Link.{is_ready_under}
 use Rattle.initialisation.proofs.phases.is_ready_under.Goals as goal
 
 pub returns-in-Ready : goal.returns-in-Ready
-returns-in-Ready c = sym (ap (is_ready_under c.args.lid) c.phase-1.given.1)
+returns-in-Ready c = sym (ap (is_ready_under c.args.lid) c.in-Ready.is)

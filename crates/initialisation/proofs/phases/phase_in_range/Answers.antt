@@ -5,4 +5,4 @@ use Rattle.initialisation.specs.Link.{phase_in_range}
 use Rattle.initialisation.proofs.phases.phase_in_range.Goals as goal
 
 pub returns-in-Ready : goal.returns-in-Ready
-returns-in-Ready c = c.ready_in_range.ensures ∙ sym (ap phase_in_range c.phase-1.given.1)
+returns-in-Ready c = c.ready_in_range.ensures ∙ sym (ap phase_in_range c.in-Ready.is)

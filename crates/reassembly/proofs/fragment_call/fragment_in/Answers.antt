@@ -8,19 +8,19 @@ pub overflow_sub-result : goal.overflow_sub-result
 unfolding read_answer
 overflow_sub-result c =
     let s = c.args.lsdu.now in
-    let read = sym (ap read_answer c.header-1.given.1) ∙ c.read.ensures.answer in
+    let read = sym (ap read_answer c.in-Fields.is) ∙ c.read.ensures.answer in
     fields_in s _ _ read
 
 pub returns-in-Fields : goal.returns-in-Fields
 unfolding read_answer
 returns-in-Fields c =
     let s = c.args.lsdu.now in
-    let read = sym (ap read_answer c.header-1.given.1) ∙ c.read.ensures.answer in
+    let read = sym (ap read_answer c.in-Fields.is) ∙ c.read.ensures.answer in
     fields_are s _ _ read
 
 pub returns-in-Refused : goal.returns-in-Refused
 unfolding read_answer
 returns-in-Refused c =
     let s = c.args.lsdu.now in
-    let read = sym (ap read_answer c.enum_told-1.given.1) ∙ c.read.ensures.answer in
+    let read = sym (ap read_answer c.in-Refused.is) ∙ c.read.ensures.answer in
     fields_none s _ read

@@ -10,7 +10,7 @@ loop-i-init c = (search rules, omega arith)
 pub returns-then-holds_pair : goal.returns-then-holds_pair
 returns-then-holds_pair c =
     let a = c.args in
-    let slots = a.t1.slots in
+    let slots = a.table.slots in
     let i = c.loop-i.i in
     let n : length slots ≡ 8 = search (rules, long) in
     let same = sym c.holds_pair.ensures ∙ c.if-holds_pair.true in
@@ -25,7 +25,7 @@ loop-i-smaller c = omega arith
 pub loop-i-preserved : goal.loop-i-preserved
 loop-i-preserved c =
     let a = c.args in
-    let slots = a.t1.slots in
+    let slots = a.table.slots in
     let i = c.loop-i.i in
     let n : length slots ≡ 8 = search (rules, long) in
     let same = sym c.holds_pair.ensures ∙ c.if-holds_pair.false in
@@ -35,7 +35,7 @@ pub returns : goal.returns
 unfolding index_of
 returns c =
     let a = c.args in
-    let slots = a.t1.slots in
+    let slots = a.table.slots in
     let n : length slots ≡ 8 = search (rules, long) in
     let e = ap (index_of a.lid a.number) (drop_of_length-le slots {i = c.loop-i.i} (omega arith)) in
     omega (arith, e)

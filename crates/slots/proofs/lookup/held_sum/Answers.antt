@@ -18,7 +18,7 @@ loop-i-smaller c = omega arith
 
 pub loop-i-preserved : goal.loop-i-preserved
 loop-i-preserved c =
-    let slots = c.args.t1 in
+    let slots = c.args.slots in
     let i = c.loop-i.i in
     let n : length slots ≡ 8 = search (rules, long) in
     let small = c.requires i (omega arith) in
@@ -27,6 +27,6 @@ loop-i-preserved c =
 
 pub returns : goal.returns
 returns c =
-    let slots = c.args.t1 in
+    let slots = c.args.slots in
     let n : length slots ≡ 8 = search (rules, long) in
     c.loop-i.invariant.1 ∙ ap (total held_of) (take_all c.loop-i.i slots (omega arith))

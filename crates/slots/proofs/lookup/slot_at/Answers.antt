@@ -7,6 +7,6 @@ use Rattle.slots.proofs.lookup.slot_at.Goals as goal
 
 pub returns : goal.returns
 returns c =
-    let slots = c.args.t1.slots in
+    let slots = c.args.table.slots in
     let n : length slots ≡ 8 = search (rules, long) in
     c.free_slot.ensures ∙ sym (get_or-eq_default slots free (omega arith))

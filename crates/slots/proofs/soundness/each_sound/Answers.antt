@@ -10,7 +10,7 @@ loop-i-init c = (search rules, refl)
 
 pub returns-then-not-sound_slot : goal.returns-then-not-sound_slot
 returns-then-not-sound_slot c =
-    let slots = c.args.t1 in
+    let slots = c.args.slots in
     let at = c.loop-i in
     let n : length slots ≡ 8 = search (rules, long) in
     let s = sym c.sound_slot.ensures ∙ not-true c.sound_slot.result c.if-not-sound_slot.true-raw in
@@ -24,7 +24,7 @@ loop-i-smaller c = omega arith
 
 pub loop-i-preserved : goal.loop-i-preserved
 loop-i-preserved c =
-    let slots = c.args.t1 in
+    let slots = c.args.slots in
     let at = c.loop-i in
     let n : length slots ≡ 8 = search (rules, long) in
     let s = sym c.sound_slot.ensures ∙ not-false c.sound_slot.result c.if-not-sound_slot.false-raw in
@@ -33,6 +33,6 @@ loop-i-preserved c =
 pub returns : goal.returns
 unfolding all_sound
 returns c =
-    let slots = c.args.t1 in
+    let slots = c.args.slots in
     let n : length slots ≡ 8 = search (rules, long) in
     sym (c.loop-i.invariant.1 ∙ ap all_sound (drop_of_length-le slots {i = c.loop-i.i} (omega arith)))

@@ -16,7 +16,7 @@ loop-j-init c = (omega arith, omega arith, c.loop-i.invariant.1, refl)
 
 pub returns-then-share_pair : goal.returns-then-share_pair
 returns-then-share_pair c =
-    let slots = c.args.t1 in
+    let slots = c.args.slots in
     let i = c.loop-i.i in
     let slot = get_or slots i free in
     let at = c.loop-j in
@@ -33,7 +33,7 @@ loop-j-smaller c = omega arith
 
 pub loop-j-preserved : goal.loop-j-preserved
 loop-j-preserved c =
-    let slots = c.args.t1 in
+    let slots = c.args.slots in
     let slot = get_or slots c.loop-i.i free in
     let at = c.loop-j in
     let n : length slots ≡ 8 = search (rules, long) in
@@ -48,7 +48,7 @@ loop-i-smaller c = omega arith
 
 pub loop-i-preserved : goal.loop-i-preserved
 loop-i-preserved c =
-    let slots = c.args.t1 in
+    let slots = c.args.slots in
     let i = c.loop-i.i in
     let slot = get_or slots i free in
     let at = c.loop-j in
@@ -59,6 +59,6 @@ loop-i-preserved c =
 pub returns : goal.returns
 unfolding distinct
 returns c =
-    let slots = c.args.t1 in
+    let slots = c.args.slots in
     let n : length slots ≡ 8 = search (rules, long) in
     sym (c.loop-i.invariant.1 ∙ ap distinct (drop_of_length-le slots {i = c.loop-i.i} (omega arith)))

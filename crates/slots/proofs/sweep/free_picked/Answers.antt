@@ -7,7 +7,7 @@ use Rattle.slots.proofs.SweepLaws.{freed_none, dropped_none, freed_yes, freed_no
 use Rattle.slots.proofs.sweep.free_picked.Goals as goal
 
 pub loop-i-init : goal.loop-i-init
-loop-i-init c = (search rules, freed_none (picks c.args.sweep) c.args.t1, dropped_none (picks c.args.sweep), search rules)
+loop-i-init c = (search rules, freed_none (picks c.args.sweep) c.args.slots, dropped_none (picks c.args.sweep), search rules)
 
 pub overflow_add-dropped : goal.overflow_add-dropped
 overflow_add-dropped c = omega (arith, c.requires c.loop-i.i c.loop-i-test.true)
@@ -21,7 +21,7 @@ loop-i-smaller c = omega arith
 pub loop-i-preserved : goal.loop-i-preserved
 loop-i-preserved c =
     let a = c.args in
-    let slots = a.t1 in
+    let slots = a.slots in
     let at = c.loop-i in
     let f = picks a.sweep in
     let n : length slots ≡ 8 = search (rules, long) in
@@ -38,7 +38,7 @@ loop-i-preserved c =
 
 pub returns : goal.returns
 returns c =
-    let slots = c.args.t1 in
+    let slots = c.args.slots in
     let at = c.loop-i in
     let f = picks c.args.sweep in
     let n : length slots ≡ 8 = search (rules, long) in

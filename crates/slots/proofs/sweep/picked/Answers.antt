@@ -5,7 +5,7 @@ use Rattle.slots.specs.Model.{picks}
 use Rattle.slots.proofs.sweep.picked.Goals as goal
 
 pub returns-in-Aged : goal.returns-in-Aged
-returns-in-Aged c = c.aged.ensures ∙ ap (λ (s : Sweep). picks s c.args.slot) (sym c.sweep-1.given.1)
+returns-in-Aged c = c.aged.ensures ∙ ap (λ (s : Sweep). picks s c.args.slot) (sym c.in-Aged.is)
 
 pub returns-in-OfLid : goal.returns-in-OfLid
-returns-in-OfLid c = c.of_lid.ensures ∙ ap (λ (s : Sweep). picks s c.args.slot) (sym c.sweep-in-OfLid-1.given.1)
+returns-in-OfLid c = c.of_lid.ensures ∙ ap (λ (s : Sweep). picks s c.args.slot) (sym c.in-OfLid.is)

@@ -7,19 +7,19 @@ use Rattle.slots.proofs.word.word.Goals as goal
 pub loop-i-init : goal.loop-i-init
 unfolding word_of
 loop-i-init c =
-    let slots = c.args.t1 in
+    let slots = c.args.slots in
     let n : length slots ≡ 8 = search (rules, long) in
     (search rules, sym (ap word_of (drop_of_length-le slots {i = 8} (omega arith))))
 
 pub overflow_add-w : goal.overflow_add-w
 overflow_add-w c =
-    let slots = c.args.t1 in
+    let slots = c.args.slots in
     let n : length slots ≡ 8 = search (rules, long) in
     omega (arith, word_byte slots c.loop-i.i n)
 
 pub overflow_add-w-then-slot-ne0 : goal.overflow_add-w-then-slot-ne0
 overflow_add-w-then-slot-ne0 c =
-    let slots = c.args.t1 in
+    let slots = c.args.slots in
     let n : length slots ≡ 8 = search (rules, long) in
     omega (arith, word_byte slots c.loop-i.i n)
 
@@ -28,7 +28,7 @@ loop-i-smaller-then-slot-ne0 c = omega arith
 
 pub loop-i-preserved-then-slot-ne0 : goal.loop-i-preserved-then-slot-ne0
 loop-i-preserved-then-slot-ne0 c =
-    let slots = c.args.t1 in
+    let slots = c.args.slots in
     let at = c.loop-i in
     let n : length slots ≡ 8 = search (rules, long) in
     (omega arith, word_turn slots at.w at.i 1 (omega arith) (omega arith) (rw (ne_eqb _ _ c.if-slot-ne0.true)) at.invariant.1)
@@ -38,7 +38,7 @@ loop-i-smaller c = omega arith
 
 pub loop-i-preserved : goal.loop-i-preserved
 loop-i-preserved c =
-    let slots = c.args.t1 in
+    let slots = c.args.slots in
     let at = c.loop-i in
     let n : length slots ≡ 8 = search (rules, long) in
     (omega arith, sym (add-zero (at.w + at.w)) ∙ word_turn slots at.w at.i 0 (omega arith) (omega arith) (rw (eq-eqb _ _ c.if-slot-ne0.false)) at.invariant.1)
@@ -46,4 +46,4 @@ loop-i-preserved c =
 pub returns : goal.returns
 returns c =
     let e : c.loop-i.i ≡ 0 = omega arith in
-    c.loop-i.invariant.1 ∙ ap (λ (k : ℕ). word_of (drop k c.args.t1)) e
+    c.loop-i.invariant.1 ∙ ap (λ (k : ℕ). word_of (drop k c.args.slots)) e
