@@ -222,7 +222,7 @@ def turn(path, entry, clauses, function, crate):
                 continue
             to = {p: w for p, (_, w) in zip(params, wanted) if p != "_"}
             body = rest[eq.end() :]
-            body = re.sub(r"(?<![\w'◌.-])[A-Za-z_][\w'₀-₉]*(?:-[\w'₀-₉]+)*", lambda t: to.get(t.group(0), t.group(0)), body)
+            body = re.sub(r"(?<![\w'◌.-])[A-Za-z_][\w'₀-₉]*(?:-[\w'₀-₉]+)*(?! = )", lambda t: to.get(t.group(0), t.group(0)), body)
             label = kind.split("-")[0] + "-" + new
             invariants.append(f"{notes}abbrev pub {label} : goal.{label}\n{unfolding}{label} l ={body}")
             continue
