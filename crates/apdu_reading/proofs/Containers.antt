@@ -23,7 +23,7 @@ use Rattle.apdu.proofs.Laws.{zero_tidy}
 use Rattle.apdu_reading.specs.declared.cursor.Cursor.{Cursor}
 use Rattle.apdu_reading.specs.declared.container.Head.{Head}
 use Rattle.apdu.specs.Sound.{nested, part_fits}
-use Rattle.apdu_reading.specs.Cursor.{cursor, state_of, component, ReadsTo, Inside}
+use Rattle.apdu_reading.specs.Cursor.{state_of, component, ReadsTo, Inside}
 use Rattle.apdu.specs.RowCounters.{row}
 use Rattle.apdu_reading.specs.Rows.{Opens}
 use Rattle.apdu_reading.specs.Lists.{Leads}

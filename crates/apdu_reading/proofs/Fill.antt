@@ -26,7 +26,7 @@ use Rattle.apdu.specs.declared.due.Due.{Due}
 use Rattle.apdu_reading.specs.declared.container.RowRead.{RowRead}
 use Rattle.apdu_reading.specs.declared.rows.Rows.{Rows}
 use Rattle.apdu_reading.specs.Cursor.{state_of}
-use Rattle.apdu.specs.RowCounters.{row, total, due_list}
+use Rattle.apdu.specs.RowCounters.{total, due_list}
 use Rattle.apdu_reading.specs.Rows.{Next}
 use Rattle.apdu_reading.specs.Lists.{between, Ready, Filled}
 use Rattle.apdu_reading.proofs.Chains.{state_log, itself, nothing}

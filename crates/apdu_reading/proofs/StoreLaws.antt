@@ -24,7 +24,7 @@ use Rattle.apdu.proofs.Laws.{rows_of_snoc, entries_more, sound_more}
 use Rattle.apdu_reading.specs.declared.cursor.Cursor.{Cursor}
 use Rattle.apdu_reading.specs.declared.rows.Rows.{Rows}
 use Rattle.apdu_reading.specs.declared.applications.EntryRead.{EntryRead}
-use Rattle.apdu_reading.specs.Cursor.{cursor, state_of, component, marked_at}
+use Rattle.apdu_reading.specs.Cursor.{state_of, component, marked_at}
 use Rattle.apdu_reading.specs.Lists.{Leads, between}
 use Rattle.apdu_reading.specs.Applications.{Grown, EntryWhole, CountMaybe}
 use Rattle.apdu_reading.proofs.Stores.{Applications, StoreReady, Stored}

@@ -1,4 +1,3 @@
-use Prim.Native.Nat.{◌-◌}
 use mathlib.Core.Path.{refl, ◌∙◌}
 use Rattle.apdu_reading.proofs.Fill.{held_none, stopped_rows, some_due, few, again, less, less_stop, done}
 use Rattle.apdu_reading.proofs.ServiceMessages.{opens_ready, read_rows}

@@ -1,12 +1,12 @@
-use Prim.Native.Nat.{◌-◌}
 use mathlib.Core.Path.{◌∙◌}
-use mathlib.Core.Logic.{inl, inr, ⊎_elim}
+use mathlib.Core.Logic.{inl, inr}
 use native.Mathlib.Omega.{arith}
 use Rattle.apdu_reading.proofs.EntryLaws.{entry_alone}
 use Rattle.apdu_reading.proofs.StoreLaws.{stored_none, stored_more, stored_all}
 use Rattle.apdu_reading.proofs.ListLaws.{list_ready, nothing_stored, both_whole, none_read, upto_ready, upto_more, upto_both}
 use Rattle.apdu_reading.proofs.FrontLaws.{message_told}
 use Rattle.apdu_reading.proofs.applications.application_lists.Goals as goal
+use Rattle.apdu_reading.proofs.applications.application_lists.Goals.{then-end-ne0, else-end-ne0}
 
 pub loop-round-init : goal.loop-round-init
 loop-round-init c = none_read _ _ _ (nothing_stored _ c.no_rows-rows.ensures c.no_entries-entries.ensures c.requires.1.room)
@@ -72,4 +72,4 @@ pub ended-end-requires : goal.ended-end-requires
 ended-end-requires c = c.requires.0
 
 pub returns : goal.returns
-returns c = message_told _ c.requires.0 _ (c.link_end-e.ensures.whole (both_whole _ _ _ (upto_both _ _ _ _ _ _ _ c.loop-round-test.false c.loop-round.invariant))) c.ended-end.ensures c.answer_of-answer.ensures c.place_of-end.ensures (⊎_elim (λ w. inl (w.0.taken, w.2 ∙ w.1.ensures)) (λ w. inr (w.0.left, w.1)) c.if-end-ne0.branch)
+returns c = message_told _ c.requires.0 _ (c.link_end-e.ensures.whole (both_whole _ _ _ (upto_both _ _ _ _ _ _ _ c.loop-round-test.false c.loop-round.invariant))) c.ended-end.ensures c.answer_of-answer.ensures c.place_of-end.ensures (elim c.if-end-ne0.branch [ then-end-ne0 w ↦ inl (w.if-end-ne0.true, w.lists-is ∙ w.cleared-lists.ensures) | else-end-ne0 w ↦ inr (w.if-end-ne0.false, w.lists-is) ])

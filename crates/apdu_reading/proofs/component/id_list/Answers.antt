@@ -1,4 +1,3 @@
-use Prim.Native.Nat.{◌-◌}
 use native.Mathlib.Nat.{le_antisymm}
 use Rattle.apdu_reading.proofs.Strings.{ids_none, ids_more, list_by}
 use native.Mathlib.Omega.{arith}

@@ -1,4 +1,3 @@
-use Prim.Native.Nat.{◌-◌}
 use Rattle.apdu_reading.proofs.Fill.{held_none, stopped_rows, some_due, few, again, less, less_stop, done}
 use native.Mathlib.Omega.{arith}
 use Rattle.apdu_reading.proofs.rows.fill.Goals as goal

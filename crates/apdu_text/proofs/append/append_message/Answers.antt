@@ -5,10 +5,10 @@ use Rattle.apdu_text.proofs.Inking.{no_room, room_for}
 use Rattle.apdu_text.proofs.append.append_message.Goals as goal
 
 pub returns-then-out-put_message : goal.returns-then-out-put_message
-returns-then-out-put_message c = no_room _ _ _ (omega (arith, c.well-formed.1.1.1.1.0.1)) c.put_message.ensures (omega arith)
+returns-then-out-put_message c = no_room _ _ _ (omega arith) c.put_message.ensures (omega arith)
 
 pub shape_of-out : goal.shape_of-out
-shape_of-out c = c.put_message-2.auto.0
+shape_of-out c = c.put_message-2.auto.out
 
 pub returns : goal.returns
-returns c = room_for _ _ _ (omega (arith, c.well-formed.1.1.1.1.0.1)) c.put_message.ensures (omega arith) c.put_message-2.ensures
+returns c = room_for _ _ _ (omega arith) c.put_message.ensures (omega arith) c.put_message-2.ensures

@@ -1,13 +1,12 @@
 -- Its words and numbers, one behind the other.
 -- Assumes nothing.
-use mathlib.Core.Path.{refl}
 use mathlib.Core.Path.{◌∙◌}
 use Rattle.apdu_text.specs.Lines.{totals_text}
 use Rattle.apdu_text.proofs.Inking.{inks_then}
 use Rattle.apdu_text.proofs.append.put_totals.Goals as goal
 
 pub shape_of-out : goal.shape_of-out
-shape_of-out c = c.put.auto.0 ∙ c.number-d.auto.0 ∙ c.number-c.auto.0 ∙ c.number-b.auto.0
+shape_of-out c = c.put.auto.out ∙ c.number-d.auto.out ∙ c.number-c.auto.out ∙ c.number-b.auto.out
 
 pub returns : goal.returns
 unfolding totals_text

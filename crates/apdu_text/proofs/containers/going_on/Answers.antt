@@ -10,7 +10,7 @@ pub overflow_sub-k : goal.overflow_sub-k
 overflow_sub-k c = omega arith
 
 pub offset_bounds-due-k : goal.offset_bounds-due-k
-offset_bounds-due-k c = omega (arith, c.well-formed.0.1)
+offset_bounds-due-k c = omega arith
 
 pub bounds-due-k : goal.bounds-due-k
 bounds-due-k c = omega arith

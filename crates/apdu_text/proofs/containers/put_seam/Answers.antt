@@ -1,6 +1,5 @@
 use native.Mathlib.Omega.{arith}
 use mathlib.Core.Path.{refl, ◌∙◌}
-use Rattle.apdu_text.specs.Parts.{seam}
 use Rattle.apdu_text.proofs.Inking.{leaves_all}
 use Rattle.apdu_text.proofs.Pieces.{seam_more, seam_comma, seam_none}
 use Rattle.apdu_text.proofs.containers.put_seam.Goals as goal
@@ -12,13 +11,13 @@ pub overflow_sub-k : goal.overflow_sub-k
 overflow_sub-k c = omega arith
 
 pub offset_bounds-due-k : goal.offset_bounds-due-k
-offset_bounds-due-k c = omega (arith, c.well-formed.1.0.1)
+offset_bounds-due-k c = omega arith
 
 pub bounds-due-k : goal.bounds-due-k
 bounds-due-k c = omega arith
 
 pub shape_of-out-then-due-k-ne0 : goal.shape_of-out-then-due-k-ne0
-shape_of-out-then-due-k-ne0 c = c.put.auto.0 ∙ c.loop-k.invariant.1
+shape_of-out-then-due-k-ne0 c = c.put.auto.out ∙ c.loop-k.invariant.1
 
 pub returns-then-due-k-ne0 : goal.returns-then-due-k-ne0
 returns-then-due-k-ne0 c = seam_comma _ _ c.loop-k.invariant.2 (omega arith) c.if-due-k-ne0.true c.put.ensures
@@ -30,7 +29,7 @@ pub loop-k-smaller : goal.loop-k-smaller
 loop-k-smaller c = omega arith
 
 pub loop-k-preserved : goal.loop-k-preserved
-loop-k-preserved c = (omega arith, c.put-p.auto.0 ∙ c.loop-k.invariant.1, seam_more _ _ c.loop-k.invariant.2 (omega arith) c.if-due-k-ne0.false c.put-p.ensures)
+loop-k-preserved c = (omega arith, c.put-p.auto.out ∙ c.loop-k.invariant.1, seam_more _ _ c.loop-k.invariant.2 (omega arith) c.if-due-k-ne0.false c.put-p.ensures)
 
 pub shape_of-out : goal.shape_of-out
 shape_of-out c = c.loop-k.invariant.1

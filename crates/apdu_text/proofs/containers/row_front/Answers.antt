@@ -6,7 +6,7 @@ use Rattle.apdu_text.proofs.Inking.{inks_then}
 use Rattle.apdu_text.proofs.containers.row_front.Goals as goal
 
 pub shape_of-out : goal.shape_of-out
-shape_of-out c = c.container_front.auto.0 ∙ c.put-value.auto.0 ∙ c.put_decimal-sign.auto.0
+shape_of-out c = c.container_front.auto.out ∙ c.put-value.auto.out ∙ c.put_decimal-sign.auto.out
 
 pub returns : goal.returns
 unfolding row_front

@@ -1,6 +1,5 @@
 use Rattle.std.proofs.Common.{rules}
 use native.Mathlib.Omega.{arith}
-use Prim.Native.Nat.{◌-◌}
 use mathlib.Core.Path.{◌≡◌, refl, ◌∙◌}
 use mathlib.Core.List.{[], ◌∷◌}
 use lib.ListN.{length}
@@ -33,16 +32,16 @@ pub loop-i-smaller-then-i-most : goal.loop-i-smaller-then-i-most
 loop-i-smaller-then-i-most c = omega arith
 
 pub loop-i-preserved-then-i-most : goal.loop-i-preserved-then-i-most
-loop-i-preserved-then-i-most c = let t : length c.args.list ≡ 32 = search (rules, long) in let z = part_length c.args.list c.args.from c.args.n t c.clamped-most.ensures.0 in (omega arith, c.put-p-then-i-most.auto.0 ∙ c.entry-p.auto.0 ∙ c.loop-i.invariant.1, used_more c.args.list c.args.from c.args.n c.loop-i.i c.args.first c.loop-i.used c.entry_rows-used.ensures.0 (omega (arith, z)) c.loop-i.invariant.2, omega (arith, c.loop-i.invariant.3, c.entry_rows-used.ensures.1), entries_more c.args.list c.args.from c.args.n c.loop-i.i c.args.s.now c.args.table c.loop-i.used (93 ∷ []) c.loop-i.invariant.4 c.entry_rows-used.ensures.0 c.entry-p.ensures (omega (arith, z)) c.put-p-then-i-most.ensures)
+loop-i-preserved-then-i-most c = let t : length c.args.list ≡ 32 = search (rules, long) in let z = part_length c.args.list c.args.from c.args.n t c.clamped-most.ensures.0 in (omega arith, c.put-p-then-i-most.auto.out ∙ c.entry-p.auto.out ∙ c.loop-i.invariant.1, used_more c.args.list c.args.from c.args.n c.loop-i.i c.args.first c.loop-i.used c.entry_rows-used.ensures.0 (omega (arith, z)) c.loop-i.invariant.2, omega (arith, c.loop-i.invariant.3, c.entry_rows-used.ensures.1), entries_more c.args.list c.args.from c.args.n c.loop-i.i c.args.s.now c.args.table c.loop-i.used (93 ∷ []) c.loop-i.invariant.4 c.entry_rows-used.ensures.0 c.entry-p.ensures (omega (arith, z)) c.put-p-then-i-most.ensures)
 
 pub loop-i-smaller : goal.loop-i-smaller
 loop-i-smaller c = omega arith
 
 pub loop-i-preserved : goal.loop-i-preserved
-loop-i-preserved c = let t : length c.args.list ≡ 32 = search (rules, long) in let z = part_length c.args.list c.args.from c.args.n t c.clamped-most.ensures.0 in (omega arith, c.entry-p.auto.0 ∙ c.loop-i.invariant.1, used_more c.args.list c.args.from c.args.n c.loop-i.i c.args.first c.loop-i.used c.entry_rows-used.ensures.0 (omega (arith, z)) c.loop-i.invariant.2, omega (arith, c.loop-i.invariant.3, c.entry_rows-used.ensures.1), entries_last c.args.list c.args.from c.args.n c.loop-i.i c.args.s.now c.args.table c.loop-i.used (93 ∷ []) c.loop-i.invariant.4 c.entry_rows-used.ensures.0 c.entry-p.ensures (omega (arith, z)) (omega (arith, z)))
+loop-i-preserved c = let t : length c.args.list ≡ 32 = search (rules, long) in let z = part_length c.args.list c.args.from c.args.n t c.clamped-most.ensures.0 in (omega arith, c.entry-p.auto.out ∙ c.loop-i.invariant.1, used_more c.args.list c.args.from c.args.n c.loop-i.i c.args.first c.loop-i.used c.entry_rows-used.ensures.0 (omega (arith, z)) c.loop-i.invariant.2, omega (arith, c.loop-i.invariant.3, c.entry_rows-used.ensures.1), entries_last c.args.list c.args.from c.args.n c.loop-i.i c.args.s.now c.args.table c.loop-i.used (93 ∷ []) c.loop-i.invariant.4 c.entry_rows-used.ensures.0 c.entry-p.ensures (omega (arith, z)) (omega (arith, z)))
 
 pub shape_of-out : goal.shape_of-out
-shape_of-out c = c.put.auto.0 ∙ c.loop-i.invariant.1 ∙ c.put-p.auto.0 ∙ c.put_word-front.auto.0
+shape_of-out c = c.put.auto.out ∙ c.loop-i.invariant.1 ∙ c.put-p.auto.out ∙ c.put_word-front.auto.out
 
 pub returns : goal.returns
 returns c = let t : length c.args.list ≡ 32 = search (rules, long) in let z = part_length c.args.list c.args.from c.args.n t c.clamped-most.ensures.0 in (entries_inks _ _ _ _ c.put_word-front.ensures c.put-p.ensures (entries_end c.args.list c.args.from c.args.n c.loop-i.i c.args.s.now c.args.table c.loop-i.used (93 ∷ []) c.loop-i.invariant.4 (omega (arith, z)) c.put.ensures), used_all c.args.list c.args.from c.args.n c.loop-i.i c.args.first c.loop-i.used (omega (arith, z)) c.loop-i.invariant.2, omega (arith, c.loop-i.invariant.3))

@@ -1,6 +1,5 @@
 -- AID, EID, parameter.
 -- Assumes nothing.
-use mathlib.Core.Path.{refl}
 use mathlib.Core.Path.{◌∙◌}
 use Rattle.apdu_text.specs.Parts.{entry_text}
 use Rattle.apdu_text.proofs.Inking.{inks_then}
@@ -8,7 +7,7 @@ use Rattle.apdu_text.proofs.Applications.{entry_inks}
 use Rattle.apdu_text.proofs.entries.entry.Goals as goal
 
 pub shape_of-out : goal.shape_of-out
-shape_of-out c = c.container_if.auto.1.0 ∙ c.number_if-value.auto.1.0 ∙ c.put_decimal-eid.auto.0
+shape_of-out c = c.container_if.auto.out ∙ c.number_if-value.auto.out ∙ c.put_decimal-eid.auto.out
 
 pub returns : goal.returns
 unfolding entry_text

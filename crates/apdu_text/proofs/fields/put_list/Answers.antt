@@ -1,5 +1,4 @@
 use native.Mathlib.Omega.{arith}
-use Prim.Native.Nat.{◌-◌, ◌+◌}
 use mathlib.Core.Path.{refl, ◌∙◌}
 use mathlib.Core.List.{[], ◌∷◌, ◌++◌}
 use mathlib.Core.Path.{ap}
@@ -24,16 +23,16 @@ pub loop-k-smaller-then-k-most : goal.loop-k-smaller-then-k-most
 loop-k-smaller-then-k-most c = omega arith
 
 pub loop-k-preserved-then-k-most : goal.loop-k-preserved-then-k-most
-loop-k-preserved-then-k-most c = (omega arith, c.put-p-then-k-most.auto.0 ∙ c.put_decimal-p.auto.0 ∙ c.loop-k.invariant.1, number_more _ _ _ _ _ c.loop-k.invariant.2 c.if-k-most.true c.octet.ensures c.put_decimal-p.ensures c.put-p-then-k-most.ensures)
+loop-k-preserved-then-k-most c = (omega arith, c.put-p-then-k-most.auto.out ∙ c.put_decimal-p.auto.out ∙ c.loop-k.invariant.1, number_more _ _ _ _ _ c.loop-k.invariant.2 c.if-k-most.true c.octet.ensures c.put_decimal-p.ensures c.put-p-then-k-most.ensures)
 
 pub loop-k-smaller : goal.loop-k-smaller
 loop-k-smaller c = omega arith
 
 pub loop-k-preserved : goal.loop-k-preserved
-loop-k-preserved c = (omega arith, c.put_decimal-p.auto.0 ∙ c.loop-k.invariant.1, number_last _ _ _ _ _ c.loop-k.invariant.2 c.loop-k-test.true c.if-k-most.false c.octet.ensures c.put_decimal-p.ensures)
+loop-k-preserved c = (omega arith, c.put_decimal-p.auto.out ∙ c.loop-k.invariant.1, number_last _ _ _ _ _ c.loop-k.invariant.2 c.loop-k-test.true c.if-k-most.false c.octet.ensures c.put_decimal-p.ensures)
 
 pub shape_of-out : goal.shape_of-out
-shape_of-out c = c.put.auto.0 ∙ c.loop-k.invariant.1 ∙ c.put-p.auto.0
+shape_of-out c = c.put.auto.out ∙ c.loop-k.invariant.1 ∙ c.put-p.auto.out
 
 pub returns : goal.returns
 returns c = list_inks _ c.put-p.ensures (numbers_end _ _ _ _ _ c.loop-k.invariant.2 c.loop-k-test.false c.put.ensures)

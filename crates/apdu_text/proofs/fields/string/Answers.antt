@@ -5,7 +5,7 @@ use Rattle.apdu_text.proofs.Inking.{inks_then}
 use Rattle.apdu_text.proofs.fields.string.Goals as goal
 
 pub shape_of-out : goal.shape_of-out
-shape_of-out c = c.put_part.auto.0 ∙ c.put_word-value.auto.0
+shape_of-out c = c.put_part.auto.out ∙ c.put_word-value.auto.out
 
 pub returns : goal.returns
 returns c = inks_then c.put_word-value.ensures c.put_part.ensures

@@ -1,13 +1,12 @@
 -- Its fields, one behind the other.
 -- Assumes nothing.
-use mathlib.Core.Path.{refl}
 use Rattle.apdu_text.specs.MessageText.{get_response_text}
 use Rattle.apdu_text.proofs.Inking.{inks_then}
 use mathlib.Core.Path.{◌∙◌}
 use Rattle.apdu_text.proofs.kinds.get_response.Goals as goal
 
 pub shape_of-out : goal.shape_of-out
-shape_of-out c = c.number_if.auto.1.0 ∙ c.attributes_if-e.auto.1.0 ∙ c.number_if-d.auto.1.0 ∙ c.number-c.auto.0 ∙ c.number-b.auto.0
+shape_of-out c = c.number_if.auto.out ∙ c.attributes_if-e.auto.out ∙ c.number_if-d.auto.out ∙ c.number-c.auto.out ∙ c.number-b.auto.out
 
 pub returns : goal.returns
 unfolding get_response_text

@@ -1,6 +1,5 @@
 -- Its fields, one behind the other.
 -- Assumes nothing.
-use mathlib.Core.Path.{refl}
 use Rattle.apdu_text.specs.MessageText.{set_request_text}
 use Rattle.apdu_text.proofs.Inking.{inks_then}
 use Rattle.apdu_text.specs.Words.{mode_is}
@@ -9,7 +8,7 @@ use mathlib.Core.Path.{◌∙◌}
 use Rattle.apdu_text.proofs.kinds.set_request.Goals as goal
 
 pub shape_of-out : goal.shape_of-out
-shape_of-out c = c.number_if.auto.1.0 ∙ c.attributes_if-f.auto.1.0 ∙ c.string_if-e.auto.1.0 ∙ c.number-d.auto.0 ∙ c.number-c.auto.0 ∙ c.number-b.auto.0
+shape_of-out c = c.number_if.auto.out ∙ c.attributes_if-f.auto.out ∙ c.string_if-e.auto.out ∙ c.number-d.auto.out ∙ c.number-c.auto.out ∙ c.number-b.auto.out
 
 pub returns : goal.returns
 unfolding set_request_text

@@ -1,6 +1,5 @@
 -- Its fields, one behind the other.
 -- Assumes nothing.
-use mathlib.Core.Path.{refl}
 use native.Mathlib.Omega.{arith}
 use mathlib.Core.Path.{◌∙◌}
 use lib.ListN.{take, drop}
@@ -14,7 +13,7 @@ pub others-f-requires : goal.others-f-requires
 others-f-requires c = omega (arith, c.entries-t.ensures.2)
 
 pub shape_of-out : goal.shape_of-out
-shape_of-out c = c.list.auto.0 ∙ c.others-f.auto.1.0 ∙ c.entries-t.auto.0 ∙ c.number-e.auto.0 ∙ c.number-d.auto.0 ∙ c.number-c.auto.0 ∙ c.number-b.auto.0
+shape_of-out c = c.list.auto.out ∙ c.others-f.auto.out ∙ c.entries-t.auto.out ∙ c.number-e.auto.out ∙ c.number-d.auto.out ∙ c.number-c.auto.out ∙ c.number-b.auto.out
 
 pub returns : goal.returns
 unfolding bst_text

@@ -1,13 +1,12 @@
 -- Its fields, one behind the other.
 -- Assumes nothing.
-use mathlib.Core.Path.{refl}
 use mathlib.Core.Path.{◌∙◌}
 use Rattle.apdu_text.specs.MessageText.{vst_text}
 use Rattle.apdu_text.proofs.Inking.{inks_then}
 use Rattle.apdu_text.proofs.link.vst.Goals as goal
 
 pub shape_of-out : goal.shape_of-out
-shape_of-out c = c.number_if.auto.1.0 ∙ c.number-e.auto.0 ∙ c.number-d.auto.0 ∙ c.entries-t.auto.0 ∙ c.number-c.auto.0 ∙ c.number-b.auto.0
+shape_of-out c = c.number_if.auto.out ∙ c.number-e.auto.out ∙ c.number-d.auto.out ∙ c.entries-t.auto.out ∙ c.number-c.auto.out ∙ c.number-b.auto.out
 
 pub returns : goal.returns
 unfolding vst_text

@@ -2,7 +2,6 @@ use native.Mathlib.Omega.{arith}
 use Prim.Native.Nat.{◌-◌, ◌+◌, ◌/◌}
 use mathlib.Core.Path.{◌≡◌, refl, ◌∙◌}
 use lib.ListN.{length, set, length-set}
-use Rattle.bench_lines.specs.Numerals.{width}
 use Rattle.bench_lines.proofs.Decimal.{width_more, width_positive, width_u64}
 use Rattle.apdu_text.specs.Parts.{decimal}
 use Rattle.apdu_text.proofs.Figures.{digits_more, decimal_inks}
@@ -49,7 +48,7 @@ pub slice_bounds-put_word-end : goal.slice_bounds-put_word-end
 slice_bounds-put_word-end c = let e : length (set c.loop-rest.digits c.loop-rest.i (48 + c.loop-rest.rest)) ≡ 20 = length-set c.loop-rest.digits c.loop-rest.i (48 + c.loop-rest.rest) ∙ c.loop-rest.invariant.2 in omega (arith, e)
 
 pub shape_of-out : goal.shape_of-out
-shape_of-out c = c.put_word.auto.0
+shape_of-out c = c.put_word.auto.out
 
 pub returns : goal.returns
 returns c = let l = c.loop-rest.invariant in decimal_inks c.args.n c.loop-rest.rest c.loop-rest.digits c.loop-rest.i l.3 (omega arith) c.put_word.ensures (20 - c.loop-rest.i) (48 + c.loop-rest.rest) refl refl c.loop-rest-test.false (omega arith)

@@ -1,6 +1,6 @@
 -- The loop leaves the digits in front of those that are set.
 -- Assumes nothing.
-use Prim.Native.Nat.{◌≤◌, ◌-◌, ◌+◌}
+use Prim.Native.Nat.{◌≤◌, ◌+◌}
 use mathlib.Core.Path.{◌≡◌}
 use lib.ListN.{length, drop}
 use Rattle.bench_lines.specs.Numerals.{width, decimal_before}

@@ -1,5 +1,4 @@
 use native.Mathlib.Omega.{arith}
-use Prim.Native.Nat.{◌-◌}
 use mathlib.Core.Path.{refl, ◌∙◌}
 use Rattle.apdu_text.proofs.Inking.{leaves_all}
 use Rattle.apdu_text.proofs.Figures.{word_more, word_end}
@@ -18,7 +17,7 @@ pub loop-k-smaller : goal.loop-k-smaller
 loop-k-smaller c = omega arith
 
 pub loop-k-preserved : goal.loop-k-preserved
-loop-k-preserved c = (omega arith, c.put-p.auto.0 ∙ c.loop-k.invariant.1, word_more _ _ c.loop-k.invariant.2 c.loop-k-test.true c.put-p.ensures)
+loop-k-preserved c = (omega arith, c.put-p.auto.out ∙ c.loop-k.invariant.1, word_more _ _ c.loop-k.invariant.2 c.loop-k-test.true c.put-p.ensures)
 
 pub shape_of-out : goal.shape_of-out
 shape_of-out c = c.loop-k.invariant.1

@@ -7,7 +7,7 @@ use Rattle.apdu_text.proofs.Flat.{rows_announced}
 use Rattle.apdu_text.proofs.rows.container.Goals as goal
 
 pub shape_of-out : goal.shape_of-out
-shape_of-out c = c.rows.auto.0 ∙ c.container_front-behind.auto.0
+shape_of-out c = c.rows.auto.out ∙ c.container_front-behind.auto.out
 
 pub returns : goal.returns
 unfolding container_text

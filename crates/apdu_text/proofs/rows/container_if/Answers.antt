@@ -5,7 +5,7 @@ use Rattle.apdu_text.proofs.Inking.{inks_then, when_there, when_absent}
 use Rattle.apdu_text.proofs.rows.container_if.Goals as goal
 
 pub shape_of-out-then-is : goal.shape_of-out-then-is
-shape_of-out-then-is c = c.container.auto.0 ∙ c.put_word-value.auto.0
+shape_of-out-then-is c = c.container.auto.out ∙ c.put_word-value.auto.out
 
 pub returns-then-is : goal.returns-then-is
 returns-then-is c = when_there _ c.if-is.true (inks_then c.put_word-value.ensures c.container.ensures)

@@ -76,7 +76,7 @@ pub loop-i-smaller-then-more-eq0 : goal.loop-i-smaller-then-more-eq0
 loop-i-smaller-then-more-eq0 c = omega arith
 
 pub loop-i-preserved-then-more-eq0 : goal.loop-i-preserved-then-more-eq0
-loop-i-preserved-then-more-eq0 c = let t : length c.args.table ≡ 32 = search (rules, long) in let l = c.loop-i.invariant in (omega arith, c.put_seam-p.auto.0 ∙ c.row_front-p.auto.0 ∙ l.1, omega (arith, c.Going-on.ensures.1), simp length-set l.3, rows_closing _ c.args.table c.args.first c.args.count c.loop-i.i c.loop-i.due c.loop-i.depth _ (omega (arith, part_length c.args.table c.args.first c.args.count t c.clamped-most.ensures.0, c.loop-i-test.true)) (omega arith) (omega arith) c.less.ensures l.4 c.row_front-p.ensures c.announces-more.ensures c.if-more-eq0.true c.put_seam-p.ensures _ c.Going-on.ensures.0)
+loop-i-preserved-then-more-eq0 c = let t : length c.args.table ≡ 32 = search (rules, long) in let l = c.loop-i.invariant in (omega arith, c.put_seam-p.auto.out ∙ c.row_front-p.auto.out ∙ l.1, omega (arith, c.going_on-depth.ensures.1), simp length-set l.3, rows_closing _ c.args.table c.args.first c.args.count c.loop-i.i c.loop-i.due c.loop-i.depth _ (omega (arith, part_length c.args.table c.args.first c.args.count t c.clamped-most.ensures.0, c.loop-i-test.true)) (omega arith) (omega arith) c.less.ensures l.4 c.row_front-p.ensures c.announces-more.ensures c.if-more-eq0.true c.put_seam-p.ensures _ c.going_on-depth.ensures.0)
 
 pub offset_bounds-due-depth-else-more-eq0 : goal.offset_bounds-due-depth-else-more-eq0
 offset_bounds-due-depth-else-more-eq0 c = omega arith
@@ -91,7 +91,7 @@ pub loop-i-smaller : goal.loop-i-smaller
 loop-i-smaller c = omega arith
 
 pub loop-i-preserved : goal.loop-i-preserved
-loop-i-preserved c = let t : length c.args.table ≡ 32 = search (rules, long) in let l = c.loop-i.invariant in (omega arith, c.row_front-p.auto.0 ∙ l.1, omega arith, simp length-set l.3, rows_opening _ c.args.table c.args.first c.args.count c.loop-i.i c.loop-i.due c.loop-i.depth _ (omega (arith, part_length c.args.table c.args.first c.args.count t c.clamped-most.ensures.0, c.loop-i-test.true)) (omega arith) (omega arith) c.less.ensures l.4 c.row_front-p.ensures c.announces-more.ensures c.if-more-eq0.false (omega arith))
+loop-i-preserved c = let t : length c.args.table ≡ 32 = search (rules, long) in let l = c.loop-i.invariant in (omega arith, c.row_front-p.auto.out ∙ l.1, omega arith, simp length-set l.3, rows_opening _ c.args.table c.args.first c.args.count c.loop-i.i c.loop-i.due c.loop-i.depth _ (omega (arith, part_length c.args.table c.args.first c.args.count t c.clamped-most.ensures.0, c.loop-i-test.true)) (omega arith) (omega arith) c.less.ensures l.4 c.row_front-p.ensures c.announces-more.ensures c.if-more-eq0.false (omega arith))
 
 pub shape_of-out : goal.shape_of-out
 shape_of-out c = c.loop-i.invariant.1
