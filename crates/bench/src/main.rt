@@ -7,6 +7,10 @@ mod lines;
 mod printing;
 
 use slots::Table;
+use std::io;
+
+// The octets of the buffers for input and for text.
+const BUFFER_OCTETS: usize = 65536;
 
 // What goes on from line to line: the table, the lines counted, the totals, the octets of a line that has not ended, the octets of text not yet
 // written.
@@ -21,19 +25,20 @@ pub struct Run {
     pub place: usize,
 }
 
-fn main() {
-    let mut input = io::large_buffer();
+fn main(rt: HostRuntime) -> io::Result<()> {
+    let mut input = [0u8; BUFFER_OCTETS];
     let mut line = [0u8; bench_lines::LONGEST_LINE + 1];
     let mut lsdu = [0u8; 300];
     let mut store = [0u8; 4096];
     let mut output = [0u8; 512];
-    let mut text = io::large_buffer();
+    let mut text = [0u8; BUFFER_OCTETS];
     lines::run(
+        &rt,
         &mut input,
         &mut line,
         &mut lsdu,
         &mut store,
         &mut output,
         &mut text,
-    );
+    )
 }
