@@ -5,7 +5,7 @@ use crate::printing::{flush, print_heading, print_line};
 use crate::set_up::{SetUp, read_set_up};
 use crate::words::front;
 use crate::{Answer, Run, Tag, Taken};
-use libc::STDIN_FILENO;
+use std::io::{self, Read};
 
 // The most characters of a line, without its line feed.
 const LONGEST_LINE: usize = 2048;
@@ -52,6 +52,7 @@ fn take_line(
 
 // The run after a line that has ended.
 fn after_line(
+    rt: &impl Print,
     run: Run,
     line: &[u8],
     credentials: &mut [u8],
@@ -61,7 +62,7 @@ fn after_line(
     octets: &mut [u8],
     output: &mut [u8],
     text: &mut [u8],
-) -> Run {
+) -> io::Result<Run> {
     let tag = run.tag;
     let taken = take_line(
         tag,
@@ -77,18 +78,19 @@ fn after_line(
     let answer = taken.answer;
     let number = std::num::wrapping_add_u64(run.lines, 1);
     let place = print_line(
-        number, answer, after, factory, writable, output, text, run.place,
-    );
-    Run {
+        rt, number, answer, after, factory, writable, output, text, run.place,
+    )?;
+    Ok(Run {
         tag: after,
         lines: number,
         held: 0,
         place,
-    }
+    })
 }
 
 // The run after the octets of `input`: each line feed ends a line, and what stands behind the last one is kept in `line`.
 fn after_input(
+    rt: &impl Print,
     run: Run,
     input: &[u8],
     line: &mut [u8],
@@ -99,7 +101,7 @@ fn after_input(
     octets: &mut [u8],
     output: &mut [u8],
     text: &mut [u8],
-) -> Run {
+) -> io::Result<Run> {
     let mut now = run;
     let mut at: usize = 0;
     while at < input.len() {
@@ -107,10 +109,11 @@ fn after_input(
         let held = bench_lines::keep_part(&input[at..end], line, now.held);
         if end == input.len() {
             now.held = held;
-            return now;
+            return Ok(now);
         }
         at = end + 1;
         now = after_line(
+            rt,
             now,
             front(line, held),
             credentials,
@@ -120,21 +123,22 @@ fn after_input(
             octets,
             output,
             text,
-        );
+        )?;
     }
-    now
+    Ok(now)
 }
 
 // The run with its text written.
-fn written(run: Run, text: &[u8]) -> Run {
+fn written(rt: &impl Print, run: Run, text: &[u8]) -> io::Result<Run> {
     let mut now = run;
-    flush(text, now.place);
+    flush(rt, text, now.place)?;
     now.place = 0;
-    now
+    Ok(now)
 }
 
-// The run after all of standard input, the answers written after each read. A proved loop has to end, so the loop counts its turns down from a number that no run uses up.
+// The run after all of standard input, the answers written after each read. A proved loop has to end, so the loop counts its turns up to a number that no run uses up.
 fn after_all(
+    rt: &(impl Input + Print),
     run: Run,
     input: &mut [u8],
     line: &mut [u8],
@@ -145,16 +149,16 @@ fn after_all(
     octets: &mut [u8],
     output: &mut [u8],
     text: &mut [u8],
-) -> Run {
+) -> io::Result<Run> {
+    let mut reader = rt.reader();
     let mut now = run;
-    let mut turns = u64::MAX;
-    while turns > 0 {
-        let got = libc::read(STDIN_FILENO, input);
-        if got <= 0 {
-            return now;
+    for _ in 0..u64::MAX {
+        let n = reader.read(input)?;
+        if n == 0 {
+            return Ok(now);
         }
-        let n = io::count(got, input);
         now = after_input(
+            rt,
             now,
             front(input, n),
             line,
@@ -165,15 +169,15 @@ fn after_all(
             octets,
             output,
             text,
-        );
-        now = written(now, text);
-        turns -= 1;
+        )?;
+        now = written(rt, now, text)?;
     }
-    now
+    Ok(now)
 }
 
 // The run after the text behind the last line feed, which is a line if it is not empty.
 fn after_rest(
+    rt: &impl Print,
     run: Run,
     line: &[u8],
     credentials: &mut [u8],
@@ -183,12 +187,13 @@ fn after_rest(
     octets: &mut [u8],
     output: &mut [u8],
     text: &mut [u8],
-) -> Run {
+) -> io::Result<Run> {
     let held = run.held;
     if held == 0 {
-        return run;
+        return Ok(run);
     }
     after_line(
+        rt,
         run,
         front(line, held),
         credentials,
@@ -203,6 +208,7 @@ fn after_rest(
 
 // The heading, and a line for each call on standard input.
 pub(crate) fn run(
+    rt: &(impl Input + Print),
     input: &mut [u8],
     line: &mut [u8],
     credentials: &mut [u8],
@@ -212,8 +218,8 @@ pub(crate) fn run(
     octets: &mut [u8],
     output: &mut [u8],
     text: &mut [u8],
-) {
-    print_heading();
+) -> io::Result<()> {
+    print_heading(rt)?;
     let start = Run {
         tag: empty_tag(),
         lines: 0,
@@ -221,6 +227,7 @@ pub(crate) fn run(
         place: 0,
     };
     let all = after_all(
+        rt,
         start,
         input,
         line,
@@ -231,8 +238,9 @@ pub(crate) fn run(
         octets,
         output,
         text,
-    );
+    )?;
     let end = after_rest(
+        rt,
         all,
         line,
         credentials,
@@ -242,6 +250,6 @@ pub(crate) fn run(
         octets,
         output,
         text,
-    );
-    flush(text, end.place);
+    )?;
+    flush(rt, text, end.place)
 }

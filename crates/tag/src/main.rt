@@ -14,6 +14,10 @@ mod words;
 
 use directory::Directory;
 use initialisation::{Configuration, Elements, Link};
+use std::io;
+
+// The octets of the buffers for input and for text.
+const BUFFER_OCTETS: usize = 65536;
 
 // The tag between two lines. Its octets stand in lent areas: of each so many are in use.
 #[derive(Clone, Copy)]
@@ -64,8 +68,8 @@ pub struct Run {
     pub place: usize,
 }
 
-fn main() {
-    let mut input = io::large_buffer();
+fn main(rt: HostRuntime) -> io::Result<()> {
+    let mut input = [0u8; BUFFER_OCTETS];
     let mut line = [0u8; 2049];
     let mut credentials = [0u8; 1024];
     let mut factory = [0u8; 1024];
@@ -73,8 +77,9 @@ fn main() {
     let mut marks = [0u8; 8192];
     let mut octets = [0u8; 1024];
     let mut output = [0u8; 512];
-    let mut text = io::large_buffer();
+    let mut text = [0u8; BUFFER_OCTETS];
     lines::run(
+        &rt,
         &mut input,
         &mut line,
         &mut credentials,
@@ -84,5 +89,5 @@ fn main() {
         &mut octets,
         &mut output,
         &mut text,
-    );
+    )
 }

@@ -19,10 +19,20 @@ pub(crate) fn put_word(text: &mut [u8], word: &[u8], at: usize) -> usize {
     place
 }
 
+// The digits of a number, from the last one to the first.
 pub(crate) fn put_decimal(text: &mut [u8], n: u64, at: usize) -> usize {
     let mut digits = [0u8; 20];
-    let k = io::decimal(n, &mut digits);
-    put_word(text, &digits[..k], at)
+    let mut rest = n;
+    let mut first: usize = 20;
+    while first > 0 {
+        first -= 1;
+        digits[first] = b'0' + (rest % 10) as u8;
+        rest /= 10;
+        if rest == 0 {
+            break;
+        }
+    }
+    put_word(text, &digits[first..], at)
 }
 
 // The character of a hex digit.

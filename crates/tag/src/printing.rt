@@ -3,18 +3,18 @@ use crate::pen::{put, put_decimal, put_lid, put_octets, put_word};
 use crate::words::front;
 use crate::{Answer, Tag};
 use initialisation::{Link, Phase};
-use libc::STDOUT_FILENO;
+use std::io;
 
 // Behind this place there may be too little room for a line.
 const LAST_PLACE: usize = 60000;
 
 // Writes the first `place` octets of `text` to standard output.
-pub(crate) fn flush(text: &[u8], place: usize) {
-    io::write_all(STDOUT_FILENO, front(text, place));
+pub(crate) fn flush(rt: &impl Print, text: &[u8], place: usize) -> io::Result<()> {
+    rt.write_all(front(text, place))
 }
 
-pub(crate) fn print_heading() {
-    io::write_all(STDOUT_FILENO, b"line answer\n");
+pub(crate) fn print_heading(rt: &impl Print) -> io::Result<()> {
+    rt.write_all(b"line answer\n")
 }
 
 fn put_phase(text: &mut [u8], phase: Phase, at: usize) -> usize {
@@ -104,6 +104,7 @@ fn put_answer<'a>(
 
 // Puts the line of an answer behind the text at `place`, which is written first if there may be too little room; nothing for a set-up line.
 pub(crate) fn print_line<'a>(
+    rt: &impl Print,
     number: u64,
     answer: Answer,
     tag: Tag,
@@ -112,11 +113,11 @@ pub(crate) fn print_line<'a>(
     output: &[u8],
     text: &mut [u8],
     place: usize,
-) -> usize {
+) -> io::Result<usize> {
     if let Answer::Nothing = answer {
-        return place;
+        return Ok(place);
     }
-    let at = room(text, place);
+    let at = room(rt, text, place)?;
     let b = put_decimal(text, number, at);
     let c = put_answer(
         text,
@@ -127,14 +128,14 @@ pub(crate) fn print_line<'a>(
         output,
         b,
     );
-    put(text, b'\n', c)
+    Ok(put(text, b'\n', c))
 }
 
 // The place where the next line starts.
-fn room(text: &[u8], place: usize) -> usize {
+fn room(rt: &impl Print, text: &[u8], place: usize) -> io::Result<usize> {
     if place < LAST_PLACE {
-        return place;
+        return Ok(place);
     }
-    flush(text, place);
-    0
+    flush(rt, text, place)?;
+    Ok(0)
 }
