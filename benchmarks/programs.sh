@@ -6,10 +6,7 @@ cd "$(dirname "${BASH_SOURCE[0]}")/.."
 lines=${1:-2000000}
 messages=${2:-200000}
 for program in bench decode; do
-    if ! log=$(rt check "$program" 2>&1); then
-        printf '%s\n' "$log" | tail -n 40
-        exit 1
-    fi
+    bash tests/build.sh "$program" >/dev/null
 done
 CARGO_TARGET_DIR="$PWD/target/second" cargo build --release --quiet --manifest-path tests/second/Cargo.toml
 input=$(mktemp)
@@ -35,8 +32,8 @@ best() {
     echo "$((least > 0 ? least : 1))"
 }
 
-target/bin/bench <"$input" | tail -n 1
-proved=$(best target/bin/bench)
+crates/bench/out/bench <"$input" | tail -n 1
+proved=$(best crates/bench/out/bench)
 plain=$(best target/second/release/second bench)
 awk -v n="$lines" -v a="$proved" -v b="$plain" 'BEGIN {
     printf "bench: proved %d lines/s, plain Rust %d lines/s, ratio %.2f\n", n * 1000 / a, n * 1000 / b, a / b
@@ -44,8 +41,8 @@ awk -v n="$lines" -v a="$proved" -v b="$plain" 'BEGIN {
 
 # Random messages of every kind, sound and damaged.
 target/second/release/second messages 1 "$messages" >"$input"
-target/bin/decode <"$input" | tail -n 1
-proved=$(best target/bin/decode)
+crates/decode/out/decode <"$input" | tail -n 1
+proved=$(best crates/decode/out/decode)
 plain=$(best target/second/release/second decode)
 awk -v n="$messages" -v a="$proved" -v b="$plain" 'BEGIN {
     printf "decode: proved %d messages/s, plain Rust %d messages/s, ratio %.2f\n", n * 1000 / a, n * 1000 / b, a / b

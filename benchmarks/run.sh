@@ -8,7 +8,7 @@ if [ "${1:-}" = quick ]; then
     effort=quick
     set -- 200000 20000
 fi
-if ! log=$(rt staticlib exports 2>&1); then
+if ! log=$(bash tests/build.sh exports 2>&1); then
     printf '%s\n' "$log" | tail -n 40
     exit 1
 fi

@@ -7,8 +7,8 @@ cd "$(dirname "${BASH_SOURCE[0]}")/.."
 seconds=${1:-60}
 work=target/fuzz
 mkdir -p "$work/corpus"
-[ -e target/staticlib/libexports.a ] || rt staticlib exports | tail -n 1
+archive=$(bash tests/build.sh exports)
 clang -std=gnu11 -D_GNU_SOURCE -O1 -g -Wall -Wextra -fsanitize=fuzzer,address,undefined -fno-sanitize-recover=all \
-    -Iinclude fuzz/harness.c target/staticlib/libexports.a -o "$work/harness"
+    -Iinclude fuzz/harness.c "$archive" -o "$work/harness"
 bash fuzz/seeds.sh "$work/seeds"
 "$work/harness" -max_total_time="$seconds" -max_len=2048 -timeout=10 -print_final_stats=1 -verbosity=0 -artifact_prefix="$work/" "$work/corpus" "$work/seeds"

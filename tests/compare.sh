@@ -1,14 +1,10 @@
 # What the comparing tests share; a run.sh sources it at the top of the repository, with `program` set to the proved program's name.
 # It builds the second program, makes a folder $work that goes at the end, and counts in $passed and $failed.
-proved=target/bin/$program
+proved=$(bash tests/build.sh "$program") || exit 1
 second=target/second/release/second
 passed=0
 failed=0
 
-if [ ! -x "$proved" ]; then
-    echo "$program: $proved is missing: run 'rt check $program' first"
-    exit 1
-fi
 cargo build --quiet --release --offline --manifest-path tests/second/Cargo.toml --target-dir target/second || exit 1
 work=$(mktemp -d) || exit 1
 trap 'rm -rf "$work"' EXIT

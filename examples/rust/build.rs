@@ -1,10 +1,10 @@
-//! Links libexports.a, which `rt staticlib exports` writes; SEMURYEON_LIB_DIR names another folder.
+//! Links libexports.a, which `rt lib` writes in crates/exports; SEMURYEON_LIB_DIR names another folder.
 
 use std::env;
 use std::path::PathBuf;
 
 fn main() {
-    let beside = PathBuf::from(env::var_os("CARGO_MANIFEST_DIR").unwrap()).join("../../target/staticlib");
+    let beside = PathBuf::from(env::var_os("CARGO_MANIFEST_DIR").unwrap()).join("../../crates/exports/out");
     let folder = env::var_os("SEMURYEON_LIB_DIR").map_or(beside, PathBuf::from);
     println!("cargo:rustc-link-search=native={}", folder.display());
     println!("cargo:rustc-link-lib=static=exports");

@@ -1,7 +1,7 @@
 #!/bin/sh
 # Runs the bench program and the second program on the stored recordings and on random ones, and compares what they print octet for octet.
 #   tests/bench/run.sh [SEED [RECORDINGS [LINES]]]
-# It needs target/bin/bench (`rt check bench`), and builds the second program from tests/second.
+# It builds bench and, from tests/second, the second program.
 set -u
 cd "$(dirname "$0")/../.." || exit 1
 seed=${1:-20260}

@@ -1,7 +1,7 @@
 #!/bin/sh
 # Runs decode and the second program on the stored messages and on random and damaged ones, and compares what they print octet for octet.
 #   tests/decode/run.sh [SEED [FILES [LINES]]]
-# It needs target/bin/decode (`rt check decode`), and builds the second program from tests/second.
+# It builds decode and, from tests/second, the second program.
 set -u
 cd "$(dirname "$0")/../.." || exit 1
 seed=${1:-40260}

@@ -33,7 +33,7 @@ prints_joined() {
 build_c() {
     local program=$1
     shift
-    gcc -std=c11 -Wall -Wextra -Werror -pedantic -g "$@" -Iinclude examples/c/join.c target/staticlib/libexports.a -o "$program"
+    gcc -std=c11 -Wall -Wextra -Werror -pedantic -g "$@" -Iinclude examples/c/join.c "$archive" -o "$program"
 }
 
 # in_package FOLDER COMMAND..: cargo in one of the packages, whose output goes below target/
@@ -47,13 +47,7 @@ memchecked() {
     valgrind --quiet --error-exitcode=1 --leak-check=full "$@"
 }
 
-rt staticlib exports >"$work/log" 2>&1
-status=$?
-if [ "$status" -ne 0 ]; then
-    tail -n 40 "$work/log"
-    echo "exports: no archive"
-    exit 1
-fi
+archive=$(bash tests/build.sh exports) || exit 1
 
 passes 'C example, build with AddressSanitizer' build_c "$work/join_asan" -O1 -fsanitize=address,undefined -fno-sanitize-recover=all
 passes 'C example with AddressSanitizer' prints_joined "$work/join_asan"

@@ -8,11 +8,11 @@ MODIFIERS = ('pub', 'extern', '"C"', '(', 'crate', ')', 'const', 'unsafe')
 
 
 class Clause:
-    """`ensures NAME { λ r. ⌜ .. ⌝ }`; a clause without a name is known as "ensures"."""
+    """`ensures NAME { .. }`; a clause without a name is known as "ensures"."""
 
     def __init__(self, name, text, source):
         tokens = antt_tokens(text)
-        says_nothing_of_the_result = tokens[:2] == ['λ', '_'] and '.exit' not in tokens
+        says_nothing_of_the_result = not any(token.split('.')[0] == 'result' or 'new' in token.split('.')[1:] for token in tokens)
         self.name = name or 'ensures'
         self.is_promise = says_nothing_of_the_result or name not in ('', *OWN_CLAUSES)
         pairs = [named_in(source, token) for token in tokens]
@@ -41,7 +41,7 @@ class Function:
             front -= 1
         before = tokens[front:at]
         self.is_public = 'pub' in before and 'crate' not in before
-        self.is_exported = self.is_public and 'extern' in before and tokens[front - 2:front - 1] == ['no_mangle']
+        self.is_exported = self.is_public and 'extern' in before and 'no_mangle' in tokens[front - 4:front]
         self.calls = self.read_contract(tokens.index('(', at))
 
     def read_contract(self, at):
@@ -106,7 +106,7 @@ def public_function(tree, call):
         if not re.search(rf'^pub mod {modules[0]};', front.text, re.MULTILINE):
             raise Unreadable(f'{crate}::{modules[0]} is no public module')
         file = f'{crate}/src/{"/".join(modules)}.rt'
-    elif re.search(rf'^pub use [\w:]*\b{name};', front.text, re.MULTILINE):
+    elif re.search(rf'^pub use [\w:]*(?:\b{name}|\{{[^}}]*\b{name}\b[^}}]*\}});', front.text, re.MULTILINE):
         file = f'{crate}/src/{"/".join(front.uses[name].split("::")[:-1])}.rt'
     else:
         file = next((f.source.name for f in crate_functions(tree, crate) if f.is_exported and f.name == name), file)

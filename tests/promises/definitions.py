@@ -14,7 +14,7 @@ ANTT_TOKEN = re.compile(r'[(){};,⌜⌝]|[^\s(){};,⌜⌝]+')
 RT_TOKEN = re.compile(
     r'//[^\n]*|"(?:[^"\\]|\\.)*"|b?\'(?:[^\'\\]|\\.)\'|[A-Za-z_]\w*(?:::[A-Za-z_]\w*)*|\d\w*|\S'
 )
-CRATE_PATH = re.compile(r'Rattle·(\w+)(?:·specs)?\.specs\.(.+)$')
+CRATE_PATH = re.compile(r'Rattle\.(?!std\.)(\w+)\.specs\.(.+)$')
 USE = re.compile(r'(?:ghost )?use (\S+?)(?:\.\{(.*)\}| as ([^\s;]+))?;?\s*$', re.DOTALL)
 
 
@@ -57,7 +57,7 @@ class Scope:
 
     def __init__(self):
         self.names = {}
-        self.operators = {}  # the parts of names such as _++_
+        self.operators = {}  # the parts of names such as ◌++◌
         self.modules = {}
 
     def add(self, line, file):
@@ -72,8 +72,8 @@ class Scope:
         for item in filter(None, (part.strip() for part in (items or '').split(','))):
             name, _, own = item.partition(' as ')
             self.names[own or name] = (path, name)
-            if '«' not in item:
-                self.operators.update({part: (path, name) for part in (own or name).split('_') if part})
+            if '◌' in (own or name):
+                self.operators.update({part: (path, name) for part in (own or name).split('◌') if part})
 
     def find(self, token):
         """(path, name) of a token that a `use` line brings, or None."""
@@ -144,7 +144,7 @@ class SpecFile:
         words = ('pub', 'unfoldable', 'abbrev', 'record', 'data')
         at = next(i for i, token in enumerate(tokens) if token not in words)
         name, kind = tokens[at], tokens[at - 1] if at else ''
-        is_operator = '_' in name and '«' not in name
+        is_operator = '◌' in name
         if name in self.definitions or is_operator or kind not in ('record', 'data') and tokens[at + 1] not in (':', '{'):
             raise Unreadable(f'{self.name}: the declaration of {name} is not understood')
         plain = tokens[at + 1:] == [':', 'Type', '0'] or tokens[at + 1:at + 5] == [':', 'Type', '0', 'where']
@@ -168,10 +168,13 @@ class SpecFile:
     def resolve(self, token):
         """(text, keys) of a token; a key is (file, name) of what it names in this project. A name with two meanings has both."""
         text, keys = imported(self.scope, token)
+        head, dot, fields = token.partition('.')
+        if dot and head not in self.scope.modules:
+            token = head
         name = self.constructors.get(token, token)
         if name not in self.definitions:
             return text, keys
-        return (f'{text}|' if keys else '') + f'{self.name}:{token}', keys + [(self.name, name)]
+        return (f'{text}|' if keys else '') + f'{self.name}:{token}' + (dot + fields if token == head else ''), keys + [(self.name, name)]
 
 
 class SourceFile:
@@ -217,20 +220,24 @@ class SourceFile:
 
 
 def imported(scope, token):
-    """(text, keys) of a token by the `use` lines alone."""
+    """(text, keys) of a token by the `use` lines alone. What stands behind a value's dot is a field of it."""
+    head, dot, fields = token.partition('.')
+    if head and dot and head not in scope.modules:
+        text, keys = imported(scope, head)
+        return text + dot + fields, keys
     found = scope.find(token)
     if token.startswith('.') or not found:
         return token, []
     path, name = found
     inside = CRATE_PATH.match(path)
     if not inside:
-        return f'{path}.{name}', [('elsewhere', path)] if path.startswith('Rattle·') else []
+        return f'{path}.{name}', [('elsewhere', path)] if path.startswith('Rattle.') and not path.startswith('Rattle.std.') else []
     crate, rest = inside.groups()
     parts = rest.split('.')
     if parts[0] != 'declared':
         file = f'{crate}/specs/{"/".join(parts)}.antt'
         return f'{file}:{name}', [(file, name)]
-    declared = [part for part in parts[1:] if part != 'the-variants']
+    declared = [part for part in parts[1:] if part != 'TheVariants']
     file = f'{crate}/src/{"/".join(declared[:-1]) or "lib"}.rt'
     return f'{file}:{declared[-1]}:{name}', [(file, declared[-1])]
 

@@ -1,8 +1,8 @@
 #!/bin/sh
 # Runs the tag program and the second program on the stored scripts and on random ones, and compares what they print octet for octet.
 #   tests/tag/run.sh [SEED [SCRIPTS]]
-# It needs target/bin/tag (`rt check tag`), and builds the second program from tests/second.
-# A random script that fails is repeated by `second script SEED | target/bin/tag`.
+# It builds tag and, from tests/second, the second program.
+# A random script that fails is repeated by `second script SEED | crates/tag/out/tag`.
 set -u
 cd "$(dirname "$0")/../.." || exit 1
 seed=${1:-20260}

@@ -1,4 +1,4 @@
--- The two ways of `rewrite`: reading refuses, or what was read is written back; and the round trips beside them.
+-- The two ways of `rewrite`: reading refuses, or what was read is written back.
 -- Assumes nothing.
 use Prim.Native.Nat.{ℕ}
 use mathlib.Core.Path.{◌≡◌, sym, ◌∙◌}
@@ -10,9 +10,6 @@ use Rattle.refusals.proofs.Tests.{by_cases}
 use Rattle.bits.specs.Bits.{Octets}
 use Rattle.apdu_format.specs.Reading.{message, read_message}
 use Rattle.apdu_format.specs.Reading.{refused as unread}
-use Rattle.apdu_format.specs.RoundTrip.{ReadingEncoded, EncodingRead, OneEncoding, SameEncoded, EncodingsAccepted, LevelsSuffice}
-use Rattle.apdu_format.proofs.Unplaced.{same_encoded}
-use Rattle.apdu_format.proofs.RoundTrip.{reading_encoded, encoding_read, one_encoding, encodings_accepted, levels_suffice}
 use Rattle.apdu.specs.declared.records.Message.{Message}
 use Rattle.apdu.specs.Values.{values_of}
 use Rattle.apdu_reading.specs.declared.front.Answer.TheVariants as answer
@@ -24,8 +21,8 @@ use Rattle.apdu_writing.specs.Answer as writing
 use Rattle.apdu_rewriting.specs.declared.Rewritten.{Rewritten}
 use Rattle.apdu_rewriting.specs.declared.Rewritten.TheVariants as rewritten
 use Rattle.apdu_rewriting.specs.Rewriting.{answer_of, answer_to, rewrite_answer, output_for, rewrite_output}
-use Rattle.apdu_rewriting.specs.RoundTrip.{WrittenBack, WritingRead, ReadingWritten, ReadingExact}
-use Rattle.apdu_rewriting.proofs.RoundTrip.{back, writing_read, reading_written, reading_exact}
+use Rattle.apdu_rewriting.specs.RoundTrip.{WrittenBack}
+use Rattle.apdu_rewriting.proofs.RoundTrip.{back}
 
 -- what `rewrite` ensures
 abbrev Rewrites : List ℕ → List ℕ → Rewritten → List ℕ → Type 0
@@ -48,13 +45,3 @@ module _ (s out : List ℕ) (r : Reading) (e : Reads s r) where
       by_cases (ltb (length out) (length s))
       (λ t. let x = b.small out (ltb-true (length out) (length s) t) in (f.0 ∙ x.answer ∙ rw (u, t), f.1 ∙ x.output ∙ rw (u, t)))
       (λ t. let x = b.written out (ltb-false (length out) (length s) t) in (f.0 ∙ x.answer ∙ rw (u, t), f.1 ∙ x.output ∙ rw (u, t)))
-
--- and what the contract cites besides: each clause holds the next beside it
-abbrev Cited : Type 0
-Cited = WritingRead × (ReadingWritten × (ReadingExact × (EncodingRead × (ReadingEncoded × (OneEncoding × (SameEncoded × (EncodingsAccepted × LevelsSuffice)))))))
-
-cited : Cited
-cited = (writing_read, (reading_written, (reading_exact, (encoding_read, (reading_encoded, (one_encoding, (same_encoded, (encodings_accepted, levels_suffice))))))))
-
-pub with_round_trips : {P : Type 0} → P → P × Cited
-with_round_trips p = (p, cited)

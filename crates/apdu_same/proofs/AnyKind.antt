@@ -9,7 +9,8 @@ use lib.ListN.{length}
 use borrow.Author.Tests.{eq-eqb, ne_eqb}
 use denote.Enum.Declared as Declared
 use mir.Val.{has_key}
-use types.Run.{OneOf, miss}
+use borrow.Enum.Refused.{Among, opened}
+use types.Run.{miss}
 use Rattle.apdu_format.specs.Reading.{Value, fields}
 use Rattle.apdu_format.proofs.Tests.{never}
 use Rattle.apdu.specs.declared.lists.Row.{Row}
@@ -93,10 +94,10 @@ behind k {r = r} h = record { so = λ x y. agree_as (alone (eq-eqb k k refl)) (a
 
 module _ (s : List ℕ) (a : Message) (es : List Entry) (vs : List Row) (t : List ℕ) (b : Message) (fs : List Entry) (ws : List Row) where
   -- b's tag is one of ks, and k is none of them
-  pub other_kind : (k : ℕ) (ks : List ℕ) {f g : Bool} → choice_of a ≡ k → OneOf ks (Declared.tag_of message.the_type b) → T (not (has_key ks k))
+  pub other_kind : (k : ℕ) (ks : List ℕ) {f g : Bool} → choice_of a ≡ k → Among ks (Declared.tag_of message.the_type b) → T (not (has_key ks k))
       → Compares f g (values_of s a es vs) (values_of t b fs ws) false
   other_kind k ks e o n =
-      record { so = λ x y. choices_differ (begins s a es vs) (begins t b fs ws) (λ z. miss ks k n (rw (tag_choice b ∙ sym z ∙ e) at o)) }
+      record { so = λ x y. choices_differ (begins s a es vs) (begins t b fs ws) (λ z. miss ks k n (rw (tag_choice b ∙ sym z ∙ e) at (opened o))) }
 
   pub same_0 : {x y : Request} {r : Bool} → a ≡ kind.ActionRequest x → b ≡ kind.ActionRequest y
       → Compares (request_sound (length s) x vs) (request_sound (length t) y ws) (request_values s x vs) (request_values t y ws) r

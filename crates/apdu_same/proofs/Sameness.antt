@@ -1,6 +1,5 @@
 -- Two messages compare as the same exactly when the round trips call them the same (specs/RoundTrip.antt of apdu_format), and so do two records.
 -- Assumes nothing.
-use Prim.Native.Nat.{ℕ}
 use mathlib.Core.Path.{◌≡◌, refl, ap}
 use mathlib.Core.List.{List, [], ◌∷◌}
 use mathlib.Core.Bool.{Bool, true, false, ◌&&◌, ◌||◌, not}
@@ -71,7 +70,3 @@ means compared.Different false q us vs e = never (cc)
 pub same_records : SameRecords
 unfolding SameRecords same_answer
 same_records s a es rs t b fs ws r e = means r (well_formed s a es rs) (well_formed t b fs ws) (values_of s a es rs) (values_of t b fs ws) e
-
--- what `same` answers, with what its contract cites besides
-pub with_sameness : {P : Type 0} → P → P × (SameExactly × SameRecords)
-with_sameness p = (p, (same_exactly, same_records))

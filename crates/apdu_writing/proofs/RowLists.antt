@@ -22,7 +22,7 @@ use Rattle.apdu_writing.specs.declared.quill.Quill.{Quill}
 use Rattle.apdu.specs.declared.due.Due.{Due}
 use Rattle.apdu_writing.specs.declared.container.RowPut.{RowPut}
 use Rattle.apdu.specs.Sound.{parts_fit, closes, rows_sound}
-use Rattle.apdu_writing.specs.Quill.{quill, Stops, Moves, Puts, halted}
+use Rattle.apdu_writing.specs.Quill.{Stops, Moves, Puts, halted}
 use Rattle.apdu.specs.RowCounters.{total, due_list}
 use Rattle.apdu_writing.specs.Rows.{Next}
 use Rattle.apdu_writing.proofs.Chains.{nothing, then}

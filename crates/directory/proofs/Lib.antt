@@ -1,4 +1,3 @@
 pub mod Rows
 pub mod Looking
-pub mod Lending
 pub mod DirectoryCases

@@ -1,7 +1,7 @@
 -- Laws of looking up in rows by value, and of the rows that are gathered from a lent list.
 -- Assumes nothing.
 use mathlib.Core.Path.{◌≡◌, refl, ap, sym, ◌∙◌, subst⁻¹}
-use mathlib.Core.Bool.{Bool, true, false, not, ◌&&◌}
+use mathlib.Core.Bool.{Bool, true, false, ◌&&◌}
 use Prim.Native.Nat.{ℕ, zero, suc, ◌+◌, ◌≤◌, ◌<◌}
 use mathlib.Core.List.{List, [], ◌∷◌, ◌++◌, append_assoc, append-nil}
 use native.Mathlib.Nat.{add-zero}
@@ -10,7 +10,7 @@ use native.Mathlib.Omega.{arith}
 use lib.Dec.{ltb, leb}
 use lib.ListN.{length, length-set, get_or, take, drop as drop_l, set, get_or-eq_default}
 use lib.Seq.{drop-cons, drop-length, length-take-le, take-suc-set, get_or-take}
-use borrow.Author.Tests.{lt-ltb, le-ltb, ltb-true, ltb-false, le-leb, lt-leb, leb-true, leb-false, not-true, not-false}
+use borrow.Author.Tests.{lt-ltb, le-ltb, ltb-true, ltb-false, le-leb, lt-leb, leb-true, leb-false}
 use denote.Ref.{Bor}
 use Rattle.refusals.specs.Check.{pick, first_of, decided, Answer}
 use Rattle.refusals.proofs.Tests.{by_cases}
@@ -45,13 +45,13 @@ module _ (f w : ℕ) (d : Directory) where
     in_count = le-leb (length (take d.count d.rows)) most_rows (omega (arith, counted))
 
     module _ {e : Bool} (each : e ≡ each_sound f w (take d.count d.rows)) where
-      pub some_bad : not e ≡ true → false ≡ sound_directory f w (list_of d)
+      pub some_bad : e ≡ false → false ≡ sound_directory f w (list_of d)
       unfolding sound_directory
-      some_bad h = rw (list_is d few) (simp (in_count, ← each, not-true e h))
+      some_bad h = rw (list_is d few) (simp (in_count, ← each, h))
 
-      pub all_good : {a : Bool} → not e ≡ false → a ≡ all_apart (take d.count d.rows) → a ≡ sound_directory f w (list_of d)
+      pub all_good : {a : Bool} → e ≡ true → a ≡ all_apart (take d.count d.rows) → a ≡ sound_directory f w (list_of d)
       unfolding sound_directory
-      all_good h k = k ∙ rw (list_is d few) (simp (in_count, ← each, not-false e h))
+      all_good h k = k ∙ rw (list_is d few) (simp (in_count, ← each, h))
 
 -- ---- looking up by value
 
@@ -141,17 +141,17 @@ row_short f w row e = leb-true row.length 127 (and_left_true (leb row.length 127
 
 -- what lookup and the second call answer
 module _ (f w : ℕ) (rows : List Row) (id : ℕ) {b : Bool} (is : b ≡ sound_directory f w rows) where
-  pub unsound_row : not b ≡ true → no_row ≡ lookup_row f w rows id
+  pub unsound_row : b ≡ false → no_row ≡ lookup_row f w rows id
   unfolding lookup_row
-  unsound_row s = simp (← is, not-true b s)
+  unsound_row s = simp (← is, s)
 
-  pub unsound_answer : not b ≡ true → answer_of (Refused 26) ≡ knowing f w rows id
+  pub unsound_answer : b ≡ false → answer_of (Refused 26) ≡ knowing f w rows id
   unfolding knowing answer_of first_of decided
-  unsound_answer s = simp (← is, not-true b s)
+  unsound_answer s = simp (← is, s)
 
-  module _ (s : not b ≡ false) {found : Found} (at : found ≡ finding rows id) where
+  module _ (s : b ≡ true) {found : Found} (at : found ≡ finding rows id) where
     sound_is : sound_directory f w rows ≡ true
-    sound_is = sym is ∙ not-false b s
+    sound_is = sym is ∙ s
 
     few : leb (length rows) most_rows ≡ true
     few = le-leb (length rows) most_rows (sound_short f w rows sound_is)

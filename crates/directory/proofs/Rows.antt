@@ -3,27 +3,20 @@
 use mathlib.Core.Path.{◌≡◌, refl, ap, sym, ◌∙◌}
 use mathlib.Core.Bool.{Bool, true, false, not, ◌&&◌}
 use Prim.Native.Nat.{ℕ, suc, ◌+◌, ◌-◌, ◌≤◌, ◌<◌}
-use mathlib.Core.List.{List, [], ◌∷◌}
+use mathlib.Core.List.{List, [], ◌∷◌, map}
 use native.Mathlib.Numerals.{add-one}
 use native.Mathlib.Omega.{arith}
 use lib.Dec.{ltb, leb}
 use lib.ListN.{length, length-map, get_or, take, drop}
 use lib.Seq.{drop-cons, drop-length, get_or-take, length-take-le}
-use borrow.Author.Tests.{eq-eqb, ne_eqb, lt-ltb, le-ltb, le-leb, lt-leb, not-true, not-false}
-use mir.Val.{Val}
-use denote.Laws.{Is}
-use denote.Struct.Laws as LL
+use borrow.Author.Tests.{eq-eqb, ne_eqb, lt-ltb, le-ltb, le-leb, lt-leb}
 use Rattle.refusals.proofs.Tests.{leb_same}
 use Rattle.directory.specs.declared.Row.{Row}
-use Rattle.directory.specs.declared.Directory.{Directory}
-use Rattle.directory.specs.contracts.Row as T
-use Rattle.directory.specs.contracts.Directory as D
-use Rattle.directory.proofs.Directory.TheLaws as D'
 use Rattle.directory.specs.Directory.{no_row, area_octets, row_sound, each_sound, same_area, share_octet, clashes, apart_from, all_apart, index_of}
 
--- an array's length, out of what owning the struct tells
-pub rows_length : (d : Directory) (vs : List Val) → Is D.the_row d vs → length d.rows ≡ 32
-rows_length d vs g = sym (length-map d.rows (T.the_field).into) ∙ (LL.owed D.the_type D'.the_laws d vs g).0.1.0.1
+-- an array of structs is as long as its values
+pub long : (A B : Type 0) (f : A → B) (l : List A) (n : ℕ) → length (map f l) ≡ n → length l ≡ n
+long A B f l n e = sym (length-map l f) ∙ e
 
 ltb_same : (a b c d : ℕ) → (a < b → c < d) → (c < d → a < b) → ltb a b ≡ ltb c d
 ltb_same a b c d f g = leb_same (suc a) b (suc c) d f g
@@ -60,32 +53,32 @@ module _ (f w : ℕ) (row : Row) {a : ℕ} (is : a ≡ area_octets f w row) wher
 -- ---- two rows
 
 module _ (a b : Row) {s : Bool} (is : s ≡ same_area a.writable b.writable) where
-  pub other_area : not s ≡ true → false ≡ share_octet a b
+  pub other_area : s ≡ false → false ≡ share_octet a b
   unfolding share_octet
-  other_area h = simp (← is, not-true s h)
+  other_area h = simp (← is, h)
 
-  module _ (h : not s ≡ false) where
+  module _ (h : s ≡ true) where
     pub first_empty : a.length ≡ 0 → false ≡ share_octet a b
     unfolding share_octet
-    first_empty e = simp (← is, not-false s h, le-ltb 0 a.length (omega arith))
+    first_empty e = simp (← is, h, le-ltb 0 a.length (omega arith))
 
     module _ (n : a.length ≡ 0 → ⊥) where
       pub second_empty : b.length ≡ 0 → false ≡ share_octet a b
       unfolding share_octet
-      second_empty e = simp (← is, not-false s h, lt-ltb 0 a.length (omega arith), le-ltb 0 b.length (omega arith))
+      second_empty e = simp (← is, h, lt-ltb 0 a.length (omega arith), le-ltb 0 b.length (omega arith))
 
       module _ (m : b.length ≡ 0 → ⊥) where
         pub first_before : a.start ≤ b.start → ltb (b.start - a.start) a.length ≡ share_octet a b
         unfolding share_octet
         first_before k =
             let e = ltb_same (b.start - a.start) a.length b.start (a.start + a.length) (λ j. omega arith) (λ j. omega arith) in
-            e ∙ simp (← is, not-false s h, lt-ltb 0 a.length (omega arith), lt-ltb 0 b.length (omega arith), lt-ltb a.start (b.start + b.length) (omega arith))
+            e ∙ simp (← is, h, lt-ltb 0 a.length (omega arith), lt-ltb 0 b.length (omega arith), lt-ltb a.start (b.start + b.length) (omega arith))
 
         pub second_before : b.start < a.start → ltb (a.start - b.start) b.length ≡ share_octet a b
         unfolding share_octet
         second_before k =
             let e = ltb_same (a.start - b.start) b.length a.start (b.start + b.length) (λ j. omega arith) (λ j. omega arith) in
-            e ∙ simp (← is, not-false s h, lt-ltb 0 a.length (omega arith), lt-ltb 0 b.length (omega arith), lt-ltb b.start (a.start + a.length) (omega arith)) (and_true_right (ltb a.start (b.start + b.length)))
+            e ∙ simp (← is, h, lt-ltb 0 a.length (omega arith), lt-ltb 0 b.length (omega arith), lt-ltb b.start (a.start + a.length) (omega arith)) (and_true_right (ltb a.start (b.start + b.length)))
 
 pub clash_id : (a b : Row) → a.id ≡ b.id → true ≡ clashes a b
 unfolding clashes
@@ -119,11 +112,11 @@ module _ (rows : List Row) (n : ℕ) where
       each_step i h = ap (each_sound f w) (from_more i h)
 
       module _ (i : ℕ) {b : Bool} (h : i < n) (is : b ≡ row_sound f w (get_or rows i no_row)) where
-        pub each_next : not b ≡ false → each_sound f w (from i) ≡ each_sound f w (from (i + 1))
-        each_next t = each_step i h ∙ ap (λ (x : Bool). x && each_sound f w (from (i + 1))) (sym is ∙ not-false b t)
+        pub each_next : b ≡ true → each_sound f w (from i) ≡ each_sound f w (from (i + 1))
+        each_next t = each_step i h ∙ ap (λ (x : Bool). x && each_sound f w (from (i + 1))) (sym is ∙ t)
 
-        pub each_bad : not b ≡ true → each_sound f w (from i) ≡ false
-        each_bad t = each_step i h ∙ ap (λ (x : Bool). x && each_sound f w (from (i + 1))) (sym is ∙ not-true b t)
+        pub each_bad : b ≡ false → each_sound f w (from i) ≡ false
+        each_bad t = each_step i h ∙ ap (λ (x : Bool). x && each_sound f w (from (i + 1))) (sym is ∙ t)
 
       pub each_none : (i : ℕ) → i ≡ n → each_sound f w (from i) ≡ true
       unfolding each_sound

@@ -182,7 +182,7 @@ writable = record { ref_ptr = (4, 40); now = 0x51 ∷ 0x52 ∷ 0x53 ∷ 0x54 ∷
 
 -- octets at a place of a block of memory
 abbrev pub lent : (block place : ℕ) → List ℕ → Bor (List ℕ)
-lent block place octets = record { ref_ptr = (block, place); ghost_name = 1; now = octets }
+lent block place octets = record { ref_ptr = (block, place); now = octets }
 
 -- ---- what is proved
 

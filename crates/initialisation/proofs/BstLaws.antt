@@ -1,6 +1,6 @@
 -- What the checks of a BST call tell of its records.
 -- Assumes nothing.
-use Rattle.std.proofs.Common.{◌≡◌, ℕ, ◌+◌, ◌^◌, ◌<◌, true, ◌&&◌, eqb, ltb, List, [], ◌∷◌, ◌++◌, length, take, drop, sym, refl, ap, ◌∙◌, ltb-true}
+use Rattle.std.proofs.Common.{◌≡◌, ℕ, ◌^◌, ◌<◌, true, ◌&&◌, eqb, ltb, List, [], ◌∷◌, ◌++◌, length, take, drop, sym, refl, ap, ◌∙◌, ltb-true}
 use Rattle.refusals.specs.Check.{first_of}
 use Rattle.refusals.proofs.Tests.{by_cases}
 use Rattle.bits.specs.Strings.{is_inside}

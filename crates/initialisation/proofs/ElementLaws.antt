@@ -1,23 +1,12 @@
 -- What the tests of elements answer, one law for each way out.
 -- Assumes nothing.
 use Rattle.std.proofs.Common.{◌≡◌, ℕ, ◌+◌, ◌*◌, ◌<◌, ◌≤◌, Bool, true, false, not, ◌&&◌, List, ◌∷◌, length, get_or, take, drop, sym, ap, ◌∙◌, eq-eqb, ne_eqb, le-leb}
-use lib.ListN.{length-map}
 use borrow.Author.Tests.{lt-leb, not-true, not-false}
-use mir.Val.{Val}
-use denote.Laws.{Is}
-use denote.Struct.Laws as LL
 use Rattle.bits.specs.Strings.{is_inside}
 use Rattle.initialisation.specs.declared.records.Element.{Element}
 use Rattle.initialisation.specs.declared.records.Elements.{Elements}
 use Rattle.initialisation.specs.Elements.{no_element, element_sound, none_has, each_sound, own_elements, elements_sound}
-use Rattle.initialisation.specs.contracts.records.Element as T
-use Rattle.initialisation.specs.contracts.records.Elements as D
-use Rattle.initialisation.proofs.records.Elements.TheLaws as D'
 use Rattle.initialisation.proofs.Lists.{rest_more, rest_none}
-
--- the array's length, out of what owning the struct tells
-pub list_length : (own : Elements) (vs : List Val) → Is D.the_row own vs → length own.list ≡ 8
-list_length own vs g = sym (length-map own.list (T.the_field).into) ∙ (LL.owed D.the_type D'.the_laws own vs g).0.1.0.1
 
 -- ---- one element
 

@@ -8,8 +8,6 @@ use Rattle.slots.specs.declared.Slot.{Slot}
 use Rattle.slots.specs.declared.Table.{Table}
 use Rattle.slots.specs.Slots.{empty_table}
 use Rattle.slots.specs.SlotCases.{place, zeros, made, eight, three, wrong}
-use Rattle.reassembly.specs.declared.FragmentFields.{FragmentFields}
-use Rattle.reassembly.specs.declared.Facts.{Facts}
 use Rattle.reassembly.specs.declared.FragmentAnswer.{FragmentAnswer}
 use Rattle.reassembly.specs.declared.FragmentAnswer.TheVariants.{Held, Whole, Refused}
 use Rattle.reassembly.specs.declared.Change.{Change}

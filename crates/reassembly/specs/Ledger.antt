@@ -1,7 +1,7 @@
 -- The ledger of demand 3 (01, "Joining", fourth paragraph). It sees of each call only its kind, LID, tick, limit and LSDU and the lengths
 -- of store and output, and keeps the open messages. Its checks and its effect stand apart.
 -- Assumes nothing.
-use Rattle.std.specs.Prelude.{ℕ, ◌+◌, Bool, true, false, not, ◌&&◌, List, [], ◌∷◌, ◌++◌, length, eqb, leb}
+use Rattle.std.specs.Prelude.{ℕ, Bool, true, false, not, ◌&&◌, List, [], ◌∷◌, ◌++◌, length, eqb, leb}
 use Rattle.refusals.specs.Check.{pick, Check, first_of}
 use Rattle.slots.specs.Slots.{slot_count, total}
 use Rattle.slots.specs.Sweep.{is_aged, expiry_checks, release_checks}

@@ -1,9 +1,9 @@
 -- Computed cases of the ledger and of the history (01, "Joining", fourth paragraph): calls one after the other from an empty
 -- ledger, on a store of 4,096 octets, and what 01 says that each reports; then what the first thirteen of them leave open.
 -- Assumes nothing.
-use Rattle.std.specs.Prelude.{ℕ, ◌-◌, ◌^◌, ◌≡◌, List, [], ◌∷◌, ◌++◌, map, take, replicate}
+use Rattle.std.specs.Prelude.{ℕ, ◌-◌, ◌^◌, ◌≡◌, List, [], ◌∷◌, map, take, replicate}
 use Rattle.slots.specs.Slots.{total}
-use Rattle.reassembly.specs.Ledger.{Call, fragment, expiry, release, Report, refusing, dropping, delivering, ledger_reports}
+use Rattle.reassembly.specs.Ledger.{fragment, expiry, release, Report, refusing, dropping, delivering, ledger_reports}
 use Rattle.reassembly.specs.History.{Event, accepted_in, delivered_in, dropped_in, Open, closed, opened, held_after}
 
 -- a fragment call with an output of 512 octets

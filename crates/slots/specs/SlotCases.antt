@@ -2,7 +2,7 @@
 -- what the counts over the word give, where a pair's slot is and what it holds, and what expiry and release answer and leave.
 -- Assumes nothing.
 use Rattle.std.specs.Prelude.{◌≡◌, ℕ, ◌-◌, ◌^◌, Bool, true, false, List, [], ◌∷◌, ◌++◌, map, take, replicate}
-use Rattle.refusals.specs.Check.{Answer, refused, accepted}
+use Rattle.refusals.specs.Check.{refused, accepted}
 use Rattle.slots.specs.declared.Slot.{Slot}
 use Rattle.slots.specs.declared.Table.{Table}
 use Rattle.slots.specs.declared.SweepAnswer.{SweepAnswer}

@@ -10,14 +10,16 @@ mod message;
 mod print;
 mod record;
 
-fn run_cases()
+use std::io;
+
+fn run_cases(rt: &impl Print) -> io::Result<()>
     ensures marked { MarkedCasesHold }
 {
-    fragment_header::run();
-    message::run();
-    record::run();
+    fragment_header::run(rt)?;
+    message::run(rt)?;
+    record::run(rt)
 }
 
-fn main() {
-    run_cases();
+fn main(rt: HostRuntime) -> io::Result<()> {
+    run_cases(&rt)
 }

@@ -4,46 +4,50 @@ use crate::print::{decimal, first_octets, octets, refused, text};
 use apdu::{Entry, Message};
 use apdu_reading::Answer;
 use apdu_writing::ApduWritten;
+use std::io;
 
-fn kind(m: Message) {
+fn kind(rt: &impl Print, m: Message) -> io::Result<()> {
     match m {
-        Message::ActionRequest(_) => text(b"action-request"),
-        Message::ActionResponse(_) => text(b"action-response"),
-        Message::EventRequest(_) => text(b"event-request"),
-        Message::EventResponse(_) => text(b"event-response"),
-        Message::SetRequest(_) => text(b"set-request"),
-        Message::SetResponse(_) => text(b"set-response"),
-        Message::GetRequest(_) => text(b"get-request"),
-        Message::GetResponse(_) => text(b"get-response"),
-        Message::Bst(_) => text(b"bst"),
-        Message::Vst(_) => text(b"vst"),
+        Message::ActionRequest(_) => text(rt, b"action-request")?,
+        Message::ActionResponse(_) => text(rt, b"action-response")?,
+        Message::EventRequest(_) => text(rt, b"event-request")?,
+        Message::EventResponse(_) => text(rt, b"event-response")?,
+        Message::SetRequest(_) => text(rt, b"set-request")?,
+        Message::SetResponse(_) => text(rt, b"set-response")?,
+        Message::GetRequest(_) => text(rt, b"get-request")?,
+        Message::GetResponse(_) => text(rt, b"get-response")?,
+        Message::Bst(_) => text(rt, b"bst")?,
+        Message::Vst(_) => text(rt, b"vst")?,
     }
+    Ok(())
 }
 
-fn entry(e: Entry) {
-    text(b", first application ");
-    decimal(e.aid as u64);
-    text(b" of element ");
-    decimal(e.eid as u64);
-    text(b", mark of ");
-    decimal(e.n as u64);
-    text(b" octets at ");
-    decimal(e.start as u64);
+fn entry(rt: &impl Print, e: Entry) -> io::Result<()> {
+    text(rt, b", first application ")?;
+    decimal(rt, e.aid as u64)?;
+    text(rt, b" of element ")?;
+    decimal(rt, e.eid as u64)?;
+    text(rt, b", mark of ")?;
+    decimal(rt, e.n as u64)?;
+    text(rt, b" octets at ")?;
+    decimal(rt, e.start as u64)?;
+    Ok(())
 }
 
 // What the record is written as, from its front on.
-fn again(w: ApduWritten, out: &[u8]) {
-    text(b", again");
+fn again(rt: &impl Print, w: ApduWritten, out: &[u8]) -> io::Result<()> {
+    text(rt, b", again")?;
     match w {
-        ApduWritten::Octets(n) => first_octets(out, n),
-        _ => text(b" refused"),
+        ApduWritten::Octets(n) => first_octets(rt, out, n)?,
+        _ => text(rt, b" refused")?,
     }
+    Ok(())
 }
 
-fn read(s: &[u8]) {
-    text(b"message");
-    octets(s);
-    text(b": ");
+fn read(rt: &impl Print, s: &[u8]) -> io::Result<()> {
+    text(rt, b"message")?;
+    octets(rt, s)?;
+    text(rt, b": ")?;
     let r = apdu_reading::read(s);
     let answer = r.answer;
     let lists = r.lists;
@@ -53,40 +57,45 @@ fn read(s: &[u8]) {
     let mut out = [0u8; 512];
     match answer {
         Answer::Message(m) => {
-            kind(m);
-            text(b" to ");
-            decimal(r.end as u64);
+            kind(rt, m)?;
+            text(rt, b" to ")?;
+            decimal(rt, r.end as u64)?;
             if first.has_parameter {
-                entry(first);
+                entry(rt, first)?;
             }
-            again(apdu_writing::write(m, rows, entries, s, &mut out), &out);
+            again(rt, apdu_writing::write(m, rows, entries, s, &mut out), &out)?;
         }
         Answer::Refused(number, position) => {
-            refused(number);
-            text(b" at ");
-            decimal(position as u64);
+            refused(rt, number)?;
+            text(rt, b" at ")?;
+            decimal(rt, position as u64)?;
         }
     }
-    text(b"\n");
+    text(rt, b"\n")?;
+    Ok(())
 }
 
-pub(crate) fn run() {
+pub(crate) fn run(rt: &impl Print) -> io::Result<()> {
     // 01's cases
-    read(&[0x05, 0x00, 0x0F, 0x02, 0x00]);
-    read(&[0x14, 0x00, 0x02, 0x00]);
-    read(&[0x20, 0x00, 0x00]);
-    read(&[0x20, 0x00]);
-    read(&[0x20, 0x00, 0x00, 0x00]);
-    read(&[0x20, 0x80, 0x00]);
-    read(&[0xA0]);
+    read(rt, &[0x05, 0x00, 0x0F, 0x02, 0x00])?;
+    read(rt, &[0x14, 0x00, 0x02, 0x00])?;
+    read(rt, &[0x20, 0x00, 0x00])?;
+    read(rt, &[0x20, 0x00])?;
+    read(rt, &[0x20, 0x00, 0x00, 0x00])?;
+    read(rt, &[0x20, 0x80, 0x00])?;
+    read(rt, &[0xA0])?;
     let none = [0u8; 0];
-    read(&none);
-    read(&[
-        0x90, 0x00, 0x01, 0xC1, 0x01, 0x02, 0x06, 0x11, 0x22, 0x33, 0x44, 0x55, 0x66, 0x80, 0x01,
-        0x00, 0x05, 0x80, 0x00,
-    ]);
+    read(rt, &none)?;
+    read(
+        rt,
+        &[
+            0x90, 0x00, 0x01, 0xC1, 0x01, 0x02, 0x06, 0x11, 0x22, 0x33, 0x44, 0x55, 0x66, 0x80,
+            0x01, 0x00, 0x05, 0x80, 0x00,
+        ],
+    )?;
     // a kind that is not read; a count above 16; a string cut short
-    read(&[0x05, 0x00, 0x0F, 0x03]);
-    read(&[0x62, 0x01, 0x11]);
-    read(&[0x05, 0x00, 0x0F, 0x02, 0x03, 0xAA, 0xBB]);
+    read(rt, &[0x05, 0x00, 0x0F, 0x03])?;
+    read(rt, &[0x62, 0x01, 0x11])?;
+    read(rt, &[0x05, 0x00, 0x0F, 0x02, 0x03, 0xAA, 0xBB])?;
+    Ok(())
 }

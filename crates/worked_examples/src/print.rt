@@ -1,36 +1,37 @@
 // What the cases print with.
-use libc::STDOUT_FILENO;
+use std::io;
 
-pub(crate) fn text(s: &[u8]) {
-    io::write_all(STDOUT_FILENO, s);
+pub(crate) fn text(rt: &impl Print, s: &[u8]) -> io::Result<()> {
+    rt.write_all(s)
 }
 
-pub(crate) fn decimal(n: u64) {
-    io::print_decimal(STDOUT_FILENO, n);
+pub(crate) fn decimal(rt: &impl Print, n: u64) -> io::Result<()> {
+    print!(rt; "{n}")
 }
 
-fn octet(o: u8) {
-    text(b" ");
-    io::print_hex(STDOUT_FILENO, o as u64, 2);
+fn octet(rt: &impl Print, o: u8) -> io::Result<()> {
+    text(rt, b" ")?;
+    print!(rt; "{o:02x}")
 }
 
 // The first n octets, or all where there are fewer.
-pub(crate) fn first_octets(s: &[u8], n: usize) {
+pub(crate) fn first_octets(rt: &impl Print, s: &[u8], n: usize) -> io::Result<()> {
     let mut k: usize = 0;
     while k < s.len() {
         if n <= k {
-            return;
+            return Ok(());
         }
-        octet(s[k]);
+        octet(rt, s[k])?;
         k += 1;
     }
+    Ok(())
 }
 
-pub(crate) fn octets(s: &[u8]) {
-    first_octets(s, s.len());
+pub(crate) fn octets(rt: &impl Print, s: &[u8]) -> io::Result<()> {
+    first_octets(rt, s, s.len())
 }
 
-pub(crate) fn refused(number: u8) {
-    text(b"refused-");
-    decimal(number as u64);
+pub(crate) fn refused(rt: &impl Print, number: u8) -> io::Result<()> {
+    text(rt, b"refused-")?;
+    decimal(rt, number as u64)
 }

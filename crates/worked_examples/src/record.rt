@@ -2,34 +2,43 @@
 use crate::print::{decimal, octets, refused, text};
 use apdu::{Entry, Lists, Message, Request, Row, SetRequest, Vst};
 use apdu_writing::ApduWritten;
+use std::io;
 
-fn write(label: &[u8], m: Message, lists: Lists, lent: &[u8], out: &mut [u8]) {
-    text(b"write ");
-    text(label);
-    text(b" into ");
-    decimal(out.len() as u64);
-    text(b":");
+fn write(
+    rt: &impl Print,
+    label: &[u8],
+    m: Message,
+    lists: Lists,
+    lent: &[u8],
+    out: &mut [u8],
+) -> io::Result<()> {
+    text(rt, b"write ")?;
+    text(rt, label)?;
+    text(rt, b" into ")?;
+    decimal(rt, out.len() as u64)?;
+    text(rt, b":")?;
     let rows = lists.rows;
     let entries = lists.entries;
     let answer = apdu_writing::write(m, rows, entries, lent, out);
     match answer {
         ApduWritten::RecordOutOfRange => {
-            text(b" ");
-            refused(refusals::RECORD_OUT_OF_RANGE);
+            text(rt, b" ")?;
+            refused(rt, refusals::RECORD_OUT_OF_RANGE)?;
         }
         ApduWritten::MessageTooLong(position) => {
-            text(b" ");
-            refused(refusals::APDU_TOO_LONG);
-            text(b" at ");
-            decimal(position as u64);
+            text(rt, b" ")?;
+            refused(rt, refusals::APDU_TOO_LONG)?;
+            text(rt, b" at ")?;
+            decimal(rt, position as u64)?;
         }
         ApduWritten::OutputTooSmall => {
-            text(b" ");
-            refused(refusals::OUTPUT_TOO_SMALL);
+            text(rt, b" ")?;
+            refused(rt, refusals::OUTPUT_TOO_SMALL)?;
         }
-        ApduWritten::Octets(_) => octets(out),
+        ApduWritten::Octets(_) => octets(rt, out)?,
     }
-    text(b"\n");
+    text(rt, b"\n")?;
+    Ok(())
 }
 
 // An event request; what is absent holds numbers that no message could carry.
@@ -181,94 +190,124 @@ fn full_lists(rows: u8) -> Lists {
     }
 }
 
-fn into_112(label: &[u8], m: Message, lists: Lists) {
+fn into_112(rt: &impl Print, label: &[u8], m: Message, lists: Lists) -> io::Result<()> {
     let lent = [0x41u8, 0x42];
     let mut out = [0xFFu8; 112];
-    write(label, m, lists, &lent, &mut out);
+    write(rt, label, m, lists, &lent, &mut out)?;
+    Ok(())
 }
 
-fn into_twenty(label: &[u8], m: Message, lists: Lists) {
+fn into_twenty(rt: &impl Print, label: &[u8], m: Message, lists: Lists) -> io::Result<()> {
     let lent = [0x41u8, 0x42];
     let mut out = [0xFFu8; 20];
-    write(label, m, lists, &lent, &mut out);
+    write(rt, label, m, lists, &lent, &mut out)?;
+    Ok(())
 }
 
-fn into_five(label: &[u8], m: Message) {
+fn into_five(rt: &impl Print, label: &[u8], m: Message) -> io::Result<()> {
     let lent = [0x41u8, 0x42];
     let mut out = [0xFFu8; 5];
-    write(label, m, no_lists(), &lent, &mut out);
+    write(rt, label, m, no_lists(), &lent, &mut out)?;
+    Ok(())
 }
 
-fn into_eight(label: &[u8], m: Message) {
+fn into_eight(rt: &impl Print, label: &[u8], m: Message) -> io::Result<()> {
     let lent = [0x41u8, 0x42];
     let mut out = [0xFFu8; 8];
-    write(label, m, no_lists(), &lent, &mut out);
+    write(rt, label, m, no_lists(), &lent, &mut out)?;
+    Ok(())
 }
 
-pub(crate) fn run() {
+pub(crate) fn run(rt: &impl Print) -> io::Result<()> {
     // absent fields are passed over, whatever they hold; the rest of the output stays
-    into_five(b"release", Message::EventRequest(release(0)));
-    into_five(b"release to eid 127", Message::EventRequest(release(127)));
-    into_five(b"release to eid 128", Message::EventRequest(release(128)));
+    into_five(rt, b"release", Message::EventRequest(release(0)))?;
     into_five(
+        rt,
+        b"release to eid 127",
+        Message::EventRequest(release(127)),
+    )?;
+    into_five(
+        rt,
+        b"release to eid 128",
+        Message::EventRequest(release(128)),
+    )?;
+    into_five(
+        rt,
         b"echo of both octets",
         Message::ActionRequest(echo(2, 2, 0)),
-    );
+    )?;
     into_eight(
+        rt,
         b"echo of both octets",
         Message::ActionRequest(echo(2, 2, 0)),
-    );
-    into_eight(b"echo from bit 4", Message::ActionRequest(echo(2, 1, 4)));
+    )?;
     into_eight(
+        rt,
+        b"echo from bit 4",
+        Message::ActionRequest(echo(2, 1, 4)),
+    )?;
+    into_eight(
+        rt,
         b"echo of an octet too many",
         Message::ActionRequest(echo(2, 3, 0)),
-    );
+    )?;
     into_eight(
+        rt,
         b"empty echo at the end",
         Message::ActionRequest(echo(2, 0, 16)),
-    );
+    )?;
     into_eight(
+        rt,
         b"empty echo behind the end",
         Message::ActionRequest(echo(2, 0, 17)),
-    );
+    )?;
     into_eight(
+        rt,
         b"parameter of kind 3",
         Message::ActionRequest(echo(3, 0, 0)),
-    );
+    )?;
     into_twenty(
+        rt,
         b"vst with an absent parameter of 0 rows",
         Message::Vst(two_applications()),
         their_lists(0),
-    );
+    )?;
     into_twenty(
+        rt,
         b"vst with an absent parameter of 1 row",
         Message::Vst(two_applications()),
         their_lists(1),
-    );
+    )?;
     into_twenty(
+        rt,
         b"vst with an absent parameter of 255 rows",
         Message::Vst(two_applications()),
         their_lists(255),
-    );
+    )?;
     // 32 rows and no more, summed over the entries
     into_112(
+        rt,
         b"set of 32 rows",
         Message::SetRequest(set_of(32)),
         full_lists(0),
-    );
+    )?;
     into_112(
+        rt,
         b"set of 33 rows",
         Message::SetRequest(set_of(33)),
         full_lists(0),
-    );
+    )?;
     into_112(
+        rt,
         b"vst of 32 and 0 rows",
         Message::Vst(two_applications()),
         full_lists(0),
-    );
+    )?;
     into_112(
+        rt,
         b"vst of 32 and 1 rows",
         Message::Vst(two_applications()),
         full_lists(1),
-    );
+    )?;
+    Ok(())
 }

@@ -1,17 +1,17 @@
+use Rattle.std.proofs.Common.{rules}
 use native.Mathlib.Omega.{arith}
-use Prim.Native.Nat.{◌-◌}
 use mathlib.Core.Path.{◌≡◌, sym, ◌∙◌}
-use mathlib.Core.Logic.{⊎_elim}
-use lib.ListN.{length, take}
+use lib.ListN.{length}
 use Rattle.apdu.specs.Values.{empty_entry}
 use Rattle.apdu.proofs.Tables.{long, part_length, part_place}
 use Rattle.apdu_same.proofs.EntryLists.{entries_all, entries_none, entry_other, entry_passed, rows_same, rows_other}
+use Rattle.apdu_same.proofs.entries.applications.Goals.{then-lists_rows+else-not-rows, else-lists_rows}
 use Rattle.apdu_same.proofs.entries.applications.Goals as goal
 
 pub loop-i-init : goal.loop-i-init
 loop-i-init c =
-    let t : length c.args.list ≡ 32 = search (long, c.well-formed.1.0.1) in
-    let u : length c.args.other ≡ 32 = search (long, c.well-formed.1.1.1.1.1.0.1) in
+    let t : length c.args.list ≡ 32 = search (rules, long) in
+    let u : length c.args.other ≡ 32 = search (rules, long) in
     let k = c.clamped-k.ensures in
     (omega arith, part_length _ c.args.from c.args.n t k.0, part_length _ c.args.from c.args.n u k.0, omega arith, omega arith, omega arith, entries_all _ _ _ _ _ _ _ _)
 
@@ -73,9 +73,10 @@ loop-i-preserved c =
       omega (arith, own.1),
       omega (arith, theirs.1),
       l.invariant.6
-          ∙ ⊎_elim
-          (λ x. rows_same _ _ _ _ _ _ l.i l.used l.gone (part_place empty_entry a.list a.from a.n l.i l.invariant.1 h) (part_place empty_entry a.other a.from a.n l.i l.invariant.2 h) (omega arith) (omega arith) c.entry.ensures c.if-not-entry.false-raw own.0 theirs.0 c.lists_rows.ensures x.0.taken x.1.ensures x.2.left)
-          (λ x. entry_passed _ _ _ _ _ _ l.i l.used l.gone (part_place empty_entry a.list a.from a.n l.i l.invariant.1 h) (part_place empty_entry a.other a.from a.n l.i l.invariant.2 h) (omega arith) (omega arith) c.entry.ensures c.if-not-entry.false-raw own.0 theirs.0 c.lists_rows.ensures x.left) c.if-lists_rows.branch,
+          ∙ elim c.if-lists_rows.branch [
+            | then-lists_rows+else-not-rows w ↦ rows_same _ _ _ _ _ _ l.i l.used l.gone (part_place empty_entry a.list a.from a.n l.i l.invariant.1 h) (part_place empty_entry a.other a.from a.n l.i l.invariant.2 h) (omega arith) (omega arith) c.entry.ensures c.if-not-entry.false-raw own.0 theirs.0 c.lists_rows.ensures w.if-lists_rows.true w.rows.ensures w.if-not-rows.false-raw
+            | else-lists_rows w ↦ entry_passed _ _ _ _ _ _ l.i l.used l.gone (part_place empty_entry a.list a.from a.n l.i l.invariant.1 h) (part_place empty_entry a.other a.from a.n l.i l.invariant.2 h) (omega arith) (omega arith) c.entry.ensures c.if-not-entry.false-raw own.0 theirs.0 c.lists_rows.ensures w.if-lists_rows.false
+          ],
     )
 
 pub returns : goal.returns

@@ -1,5 +1,5 @@
+use Rattle.std.proofs.Common.{rules}
 use native.Mathlib.Omega.{arith}
-use Prim.Native.Nat.{◌-◌}
 use mathlib.Core.Path.{◌≡◌, refl}
 use lib.ListN.{length}
 use Rattle.apdu.proofs.Tables.{long}
@@ -27,12 +27,12 @@ loop-i-smaller c = omega arith
 pub loop-i-preserved : goal.loop-i-preserved
 loop-i-preserved c =
     let l = c.loop-i in
-    let t : length c.args.list ≡ 32 = search (long, c.well-formed.0.1) in
+    let t : length c.args.list ≡ 32 = search (rules, long) in
     (omega arith, omega (arith, c.entry_rows-used.ensures.1), rows_more _ l.i refl c.entry_rows-used.ensures.0 (omega arith) l.invariant.2)
 
 pub returns : goal.returns
 returns c =
     let l = c.loop-i in
-    let t : length c.args.list ≡ 32 = search (long, c.well-formed.0.1) in
+    let t : length c.args.list ≡ 32 = search (rules, long) in
     let k = c.clamped-k.ensures in
     (rows_whole _ c.args.n l.i t (omega arith) l.invariant.2, omega arith)

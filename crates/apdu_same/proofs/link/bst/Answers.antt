@@ -1,5 +1,6 @@
 -- Where the leading parts agree, the rest is compared piece by piece.
 -- Assumes nothing.
+use Rattle.std.proofs.Common.{rules}
 use mathlib.Core.Path.{◌≡◌, refl}
 use lib.ListN.{length}
 use Rattle.apdu.specs.Values.{bst_values}
@@ -14,6 +15,6 @@ returns-then-not-lead c = other (lead_more c.flag.ensures (lead_more refl (lead_
 
 pub returns : goal.returns
 returns c =
-    let n : length c.args.list ≡ 32 = search (long, c.well-formed.1.1.0.1) in
-    let m : length c.args.other ≡ 32 = search (long, c.well-formed.1.1.1.1.1.1.0.1) in
+    let n : length c.args.list ≡ 32 = search (rules, long) in
+    let m : length c.args.other ≡ 32 = search (rules, long) in
     bst_same _ _ _ _ _ _ _ _ n m c.rows_of.ensures.0 c.rows_of-2.ensures.0 (lead_more c.flag.ensures (lead_more refl (lead_last _ _ refl))) c.if-not-lead.false-raw c.applications_if-mandatory.ensures c.applications_if-second.ensures c.part_if.ensures

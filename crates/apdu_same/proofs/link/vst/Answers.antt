@@ -1,5 +1,6 @@
 -- The pieces are compared one after the other.
 -- Assumes nothing.
+use Rattle.std.proofs.Common.{rules}
 use mathlib.Core.Path.{◌≡◌}
 use lib.ListN.{length}
 use Rattle.apdu.proofs.Tables.{long}
@@ -8,6 +9,6 @@ use Rattle.apdu_same.proofs.link.vst.Goals as goal
 
 pub returns : goal.returns
 returns c =
-    let n : length c.args.list ≡ 32 = search (long, c.well-formed.1.1.0.1) in
-    let m : length c.args.other ≡ 32 = search (long, c.well-formed.1.1.1.1.1.1.0.1) in
+    let n : length c.args.list ≡ 32 = search (rules, long) in
+    let m : length c.args.other ≡ 32 = search (rules, long) in
     vst_same _ _ _ _ _ _ _ _ n m c.applications_if-applications.ensures c.flag.ensures c.number_if.ensures

@@ -1,6 +1,5 @@
 use Rattle.std.proofs.Common.{rules}
 use native.Mathlib.Omega.{arith}
-use Prim.Native.Nat.{◌-◌}
 use mathlib.Core.Path.{◌≡◌, refl, ◌∙◌}
 use lib.ListN.{length}
 use borrow.Author.Tests.{not-false}
@@ -9,7 +8,7 @@ use Rattle.apdu_writing.proofs.EntryLists.{turns_none, turns_more, turns_all, tu
 use Rattle.apdu_writing.proofs.entries.applications.Goals as goal
 
 pub shape_of-out-then-not-d : goal.shape_of-out-then-not-d
-shape_of-out-then-not-d c = c.entry_count-d.auto.1.0
+shape_of-out-then-not-d c = c.entry_count-d.auto.out
 
 pub returns-then-not-d : goal.returns-then-not-d
 returns-then-not-d c = turns_stopped _ _ _ _ _ _ c.if-not-d.true c.entry_count-d.ensures.0
@@ -36,10 +35,10 @@ pub loop-i-smaller : goal.loop-i-smaller
 loop-i-smaller c = omega arith
 
 pub loop-i-preserved : goal.loop-i-preserved
-loop-i-preserved c = let g = c.entry_count-d.ensures.1.so (not-false _ c.if-not-d.false) in let t : length c.args.list ≡ 32 = search (rules, long) in (omega arith, c.application-q.auto.1.1.1.1.0 ∙ c.loop-i.invariant.1, omega (arith, c.loop-i.invariant.2, c.entry_rows-used.ensures.1), turns_more _ _ _ _ t c.requires.0 g c.loop-i.invariant.3 refl c.entry_rows-used.ensures.0 c.loop-i-test.true c.application-q.ensures)
+loop-i-preserved c = let g = c.entry_count-d.ensures.1.so (not-false _ c.if-not-d.false) in let t : length c.args.list ≡ 32 = search (rules, long) in (omega arith, c.application-q.auto.out ∙ c.loop-i.invariant.1, omega (arith, c.loop-i.invariant.2, c.entry_rows-used.ensures.1), turns_more _ _ _ _ t c.requires.0 g c.loop-i.invariant.3 refl c.entry_rows-used.ensures.0 c.loop-i-test.true c.application-q.ensures)
 
 pub shape_of-out : goal.shape_of-out
-shape_of-out c = c.loop-i.invariant.1 ∙ c.entry_count-d.auto.1.0
+shape_of-out c = c.loop-i.invariant.1 ∙ c.entry_count-d.auto.out
 
 pub returns : goal.returns
 returns c = let g = c.entry_count-d.ensures.1.so (not-false _ c.if-not-d.false) in let t : length c.args.list ≡ 32 = search (rules, long) in turns_all _ _ _ _ t c.requires.0 g c.loop-i.invariant.3 (omega arith) c.loop-i.invariant.2 c.entry_count-d.ensures.0

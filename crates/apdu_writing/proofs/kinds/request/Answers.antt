@@ -5,7 +5,7 @@ use Rattle.apdu_writing.proofs.Messages.{request_by}
 use Rattle.apdu_writing.proofs.kinds.request.Goals as goal
 
 pub shape_of-out : goal.shape_of-out
-shape_of-out c = c.number_if.auto.1.1.0 ∙ c.boxed_if-h.auto.1.1.1.1.1.1.1.0 ∙ c.string_if-g.auto.1.1.1.1.0 ∙ c.number-f.auto.1.0 ∙ c.number-e.auto.1.0 ∙ c.put-d.auto.0
+shape_of-out c = c.number_if.auto.out ∙ c.boxed_if-h.auto.out ∙ c.string_if-g.auto.out ∙ c.number-f.auto.out ∙ c.number-e.auto.out ∙ c.put-d.auto.out
 
 pub returns : goal.returns
 returns c = request_by _ _ _ _ c.requires c.bit.ensures.0 c.bit-2.ensures.0 c.bit-3.ensures.0 c.bit-4.ensures.0 c.put-d.ensures c.number-e.ensures c.number-f.ensures c.string_if-g.ensures c.boxed_if-h.ensures c.number_if.ensures

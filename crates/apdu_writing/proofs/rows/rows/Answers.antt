@@ -1,6 +1,5 @@
 use Rattle.std.proofs.Common.{rules}
 use native.Mathlib.Omega.{arith}
-use Prim.Native.Nat.{◌-◌}
 use mathlib.Core.Path.{◌≡◌, refl, sym, ◌∙◌}
 use lib.ListN.{length}
 use borrow.Author.Tests.{eqb-true, eqb-false}
@@ -37,7 +36,7 @@ pub loop-i-smaller : goal.loop-i-smaller
 loop-i-smaller c = omega arith
 
 pub loop-i-preserved : goal.loop-i-preserved
-loop-i-preserved c = let a = c.args in let t : length a.table ≡ 32 = search (rules, long) in (omega arith, c.next_row-t.auto.1.1.1.0 ∙ c.loop-i.invariant.1, run_more _ _ c.loop-i.invariant.2 (part_place empty_row a.table a.first a.count _ (part_length a.table a.first a.count t c.clamped-n.ensures.0) c.loop-i-test.true) (part_in _ _ _ t c.clamped-n.ensures.0 c.loop-i-test.true) (eqb-false _ _ (sym c.finished.ensures ∙ c.if-finished.false)) c.next_row-t.ensures)
+loop-i-preserved c = let a = c.args in let t : length a.table ≡ 32 = search (rules, long) in (omega arith, c.next_row-t.auto.out ∙ c.loop-i.invariant.1, run_more _ _ c.loop-i.invariant.2 (part_place empty_row a.table a.first a.count _ (part_length a.table a.first a.count t c.clamped-n.ensures.0) c.loop-i-test.true) (part_in _ _ _ t c.clamped-n.ensures.0 c.loop-i-test.true) (eqb-false _ _ (sym c.finished.ensures ∙ c.if-finished.false)) c.next_row-t.ensures)
 
 pub shape_of-out-then-finished-2 : goal.shape_of-out-then-finished-2
 shape_of-out-then-finished-2 c = c.loop-i.invariant.1

@@ -1,3 +1,4 @@
+use Rattle.std.proofs.Common.{rules}
 use native.Mathlib.Omega.{arith}
 use Prim.Native.Nat.{◌-◌}
 use mathlib.Core.Path.{◌≡◌, refl, sym, ◌∙◌}
@@ -21,7 +22,7 @@ attribute_status-status-requires c = c.requires.1
 
 pub returns-then-status-ne0 : goal.returns-then-status-ne0
 returns-then-status-ne0 c =
-    let t : length c.args.attributes ≡ 32 = search (long, c.well-formed.0.1) in
+    let t : length c.args.attributes ≡ 32 = search (rules, long) in
     sym (c.loop-i.invariant.1 ∙ sets_fault _ _ (omega arith) _ _ c.loop-i.i c.loop-i-test.true c.attribute_status-status.ensures c.if-status-ne0.true)
 
 pub overflow_add-i : goal.overflow_add-i
@@ -32,10 +33,10 @@ loop-i-smaller c = omega arith
 
 pub loop-i-preserved : goal.loop-i-preserved
 loop-i-preserved c =
-    let t : length c.args.attributes ≡ 32 = search (long, c.well-formed.0.1) in
+    let t : length c.args.attributes ≡ 32 = search (rules, long) in
     (omega arith, c.loop-i.invariant.1 ∙ sets_pass _ _ (omega arith) _ _ c.loop-i.i c.loop-i-test.true c.attribute_status-status.ensures c.if-status-ne0.false)
 
 pub returns : goal.returns
 returns c =
-    let t : length c.args.attributes ≡ 32 = search (long, c.well-formed.0.1) in
+    let t : length c.args.attributes ≡ 32 = search (rules, long) in
     sym (c.loop-i.invariant.1 ∙ sets_end c.args.attributes c.args.count (omega arith) (list_of c.args.d) c.args.exact c.loop-i.i (omega arith))

@@ -1,3 +1,4 @@
+use Rattle.std.proofs.Common.{rules}
 use native.Mathlib.Omega.{arith}
 use Prim.Native.Nat.{◌-◌, ◌+◌}
 use mathlib.Core.Path.{◌≡◌, refl, ap, sym, ◌∙◌}
@@ -28,9 +29,9 @@ loop-i-smaller c = omega arith
 
 pub loop-i-preserved : goal.loop-i-preserved
 loop-i-preserved c =
-    let t : length c.args.attributes ≡ 32 = search (long, c.well-formed.1.0.1) in (
+    let t : length c.args.attributes ≡ 32 = search (rules, long) in (
       omega arith,
-      c.set_row.auto.1.1.1.0 ∙ c.loop-i.invariant.1,
+      c.set_row.auto.writable ∙ c.loop-i.invariant.1,
       c.loop-i.invariant.2 ∙ rows_more c.args.attributes c.args.count (omega arith) c.args.s.now (list_of c.args.d) c.loop-i.i c.loop-i.writable c.loop-i-test.true
           ∙ ap (set_rows c.args.s.now (list_of c.args.d) (from c.args.attributes c.args.count (c.loop-i.i + 1))) (sym c.set_row.ensures),
     )
@@ -40,5 +41,5 @@ shape_of-writable c = c.loop-i.invariant.1
 
 pub returns : goal.returns
 returns c =
-    let t : length c.args.attributes ≡ 32 = search (long, c.well-formed.1.0.1) in
+    let t : length c.args.attributes ≡ 32 = search (rules, long) in
     sym (c.loop-i.invariant.2 ∙ rows_end c.args.attributes c.args.count (omega arith) c.args.s.now (list_of c.args.d) c.loop-i.i c.loop-i.writable (omega arith))

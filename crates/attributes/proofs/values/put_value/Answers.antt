@@ -10,7 +10,7 @@ pub put_part-requires-else-row : goal.put_part-requires-else-row
 put_part-requires-else-row c = (in_factory_law _ _ c.args.row c.requires.0 c.if-row.false, c.requires.1)
 
 pub returns-then-row : goal.returns-then-row
-returns-then-row c = let a = c.args in put_ours a.factory.now a.writable.now a.row a.out-1.now a.at c.put_part.ensures c.if-row.true
+returns-then-row c = let a = c.args in put_ours a.factory.now a.writable.now a.row a.out.now a.at c.put_part.ensures c.if-row.true
 
 pub returns-else-row : goal.returns-else-row
 returns-else-row c = let a = c.args in put_factory a.factory.now a.writable.now a.row a.out.now a.at c.put_part-else-row.ensures c.if-row.false

@@ -4,4 +4,4 @@ use Rattle.bench_joining.proofs.joining.join.Goals as goal
 
 pub returns : goal.returns
 returns c =
-    record { call = c.fragment-result.result; gives = c.fragment-result.ensures.1; table_is = refl; columns_are = c.shown.ensures }
+    record { call = c.fragment-result.result; gives = c.fragment-result.ensures.answer; table_is = refl; columns_are = c.shown.ensures }

@@ -11,8 +11,8 @@ returns-then-not-link_in_range c = rw (sym c.link_in_range.ensures ∙ not-true 
 
 pub returns-then-not-well_formed : goal.returns-then-not-well_formed
 unfolding records_in_range
-returns-then-not-well_formed c = rw (sym c.link_in_range.ensures ∙ not-false c.link_in_range.result c.if-not-link_in_range.false-raw, sym c.well-formed-2.ensures ∙ not-true c.well-formed-2.result c.if-not-well_formed.true-raw)
+returns-then-not-well_formed c = rw (sym c.link_in_range.ensures ∙ not-false c.link_in_range.result c.if-not-link_in_range.false-raw, sym c.well_formed-2.ensures ∙ not-true c.well_formed-2.result c.if-not-well_formed.true-raw)
 
 pub returns : goal.returns
 unfolding records_in_range
-returns c = c.configuration_in_range.ensures ∙ sym (rw (sym c.link_in_range.ensures ∙ not-false c.link_in_range.result c.if-not-link_in_range.false-raw, sym c.well-formed-2.ensures ∙ not-false c.well-formed-2.result c.if-not-well_formed.false-raw))
+returns c = c.configuration_in_range.ensures ∙ sym (rw (sym c.link_in_range.ensures ∙ not-false c.link_in_range.result c.if-not-link_in_range.false-raw, sym c.well_formed-2.ensures ∙ not-false c.well_formed-2.result c.if-not-well_formed.false-raw))

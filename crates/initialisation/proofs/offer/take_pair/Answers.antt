@@ -2,16 +2,17 @@
 -- Assumes nothing.
 use Rattle.std.proofs.Common.{◌≡◌, length, arith, rules}
 use Rattle.initialisation.proofs.Lists.{long}
-use Rattle.initialisation.proofs.ElementLaws.{list_length}
 use Rattle.initialisation.proofs.OfferLaws.{pair_taken, pair_missing}
 use Rattle.initialisation.proofs.offer.take_pair.Goals as goal
 
 pub returns-then-i-n : goal.returns-then-i-n
 returns-then-i-n c =
     let n : length c.args.entries ≡ 32 = search (rules, long) in
-    pair_taken _ _ n _ _ (omega (arith, list_length c.args.own _ c.well-formed.1.1.0)) c.offered.ensures _ c.first_pair-i.ensures.0 c.if-i-n.true
+    let m : length c.args.own.list ≡ 8 = search (rules, long) in
+    pair_taken _ _ n _ _ (omega arith) c.offered.ensures _ c.first_pair-i.ensures.0 c.if-i-n.true
 
 pub returns : goal.returns
 returns c =
     let n : length c.args.entries ≡ 32 = search (rules, long) in
-    pair_missing _ _ n _ _ (omega (arith, list_length c.args.own _ c.well-formed.1.1.0)) c.offered.ensures _ c.first_pair-i.ensures.0 c.if-i-n.false
+    let m : length c.args.own.list ≡ 8 = search (rules, long) in
+    pair_missing _ _ n _ _ (omega arith) c.offered.ensures _ c.first_pair-i.ensures.0 c.if-i-n.false

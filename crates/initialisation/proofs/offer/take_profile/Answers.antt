@@ -1,4 +1,4 @@
-use Rattle.std.proofs.Common.{◌-◌, arith}
+use Rattle.std.proofs.Common.{arith}
 use Rattle.bits.proofs.Strings.{inside_le}
 use Rattle.initialisation.specs.Offer.{profile_of}
 use Rattle.initialisation.proofs.OfferLaws.{own_served, list_begun, list_served, list_next, list_none}

@@ -13,7 +13,7 @@ returns c =
     let a = c.args in
     let pre = c.requires in
     let part = drop (512 * a.index) a.store.now in
-    let long = length-take-le a part (omega (arith, length-drop (512 * a.index) a.store.now)) in
-    let front = ap (λ (l : List ℕ). paste l a a.payload.now (length a.payload.now)) c.copy_held.ensures in
-    let written = c.copy.ensures ∙ front ∙ two_pastes a.output-1.now (take a part) a.payload.now a long (omega arith) in
+    let long = length-take-le a.before part (omega (arith, length-drop (512 * a.index) a.store.now)) in
+    let front = ap (λ (l : List ℕ). paste l a.before a.payload.now (length a.payload.now)) c.copy_held.ensures in
+    let written = c.copy.ensures ∙ front ∙ two_pastes a.output.now (take a.before part) a.payload.now a.before long (omega arith) in
     record { change_is = rw c.free_slot.ensures; output_is = written }

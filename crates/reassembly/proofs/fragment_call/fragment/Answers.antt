@@ -6,4 +6,4 @@ use Rattle.reassembly.proofs.CallLaws.{change_gives}
 use Rattle.reassembly.proofs.fragment_call.fragment.Goals as goal
 
 pub returns : goal.returns
-returns c = record { demand = change_gives c.fragment_change-c.result c.fragment_change-c.ensures c.changed-table.ensures; answer = demanded; runs = runs_exist }
+returns c = record { demand = demanded; answer = change_gives c.fragment_change-c.result c.fragment_change-c.ensures c.changed-table.ensures; runs = runs_exist }

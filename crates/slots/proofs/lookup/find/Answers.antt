@@ -1,4 +1,4 @@
-use Rattle.std.proofs.Common.{◌≡◌, ◌-◌, length, drop, sym, ap, ◌∙◌, arith, drop_of_length-le, rules}
+use Rattle.std.proofs.Common.{◌≡◌, length, sym, ap, ◌∙◌, arith, drop_of_length-le, rules}
 use Rattle.slots.specs.Slots.{index_of}
 use Rattle.slots.proofs.Tests.{long}
 use Rattle.slots.proofs.LookupLaws.{index_here, index_there}

@@ -1,4 +1,4 @@
-use Rattle.std.proofs.Common.{◌≡◌, ◌-◌, length, take, ap, ◌∙◌, arith, take_all, rules}
+use Rattle.std.proofs.Common.{◌≡◌, length, ap, ◌∙◌, arith, take_all, rules}
 use Rattle.slots.specs.Slots.{total, held_of}
 use Rattle.slots.proofs.Tests.{long}
 use Rattle.slots.proofs.LookupLaws.{total_none, total_step}

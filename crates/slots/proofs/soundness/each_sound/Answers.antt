@@ -1,4 +1,4 @@
-use Rattle.std.proofs.Common.{◌≡◌, ◌+◌, ◌-◌, Bool, ◌&&◌, length, drop, sym, refl, ap, ◌∙◌, arith, drop_of_length-le, rules}
+use Rattle.std.proofs.Common.{◌≡◌, ◌+◌, Bool, ◌&&◌, length, drop, sym, refl, ap, ◌∙◌, arith, drop_of_length-le, rules}
 use borrow.Author.Tests.{not-true, not-false}
 use Rattle.slots.specs.Model.{all_sound}
 use Rattle.slots.proofs.Tests.{long}

@@ -1,4 +1,4 @@
-use Rattle.std.proofs.Common.{◌≡◌, ◌+◌, ◌-◌, Bool, not, ◌&&◌, length, get_or, drop, sym, refl, ap, ◌∙◌, arith, drop_of_length-le, rules}
+use Rattle.std.proofs.Common.{◌≡◌, ◌+◌, Bool, not, ◌&&◌, length, get_or, drop, sym, refl, ap, ◌∙◌, arith, drop_of_length-le, rules}
 use Rattle.slots.specs.Slots.{free}
 use Rattle.slots.specs.Model.{alone, distinct}
 use Rattle.slots.proofs.Tests.{long}

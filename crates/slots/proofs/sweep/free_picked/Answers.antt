@@ -1,10 +1,11 @@
-use Rattle.std.proofs.Common.{◌≡◌, ◌-◌, ◌<◌, length, take, drop, set, sym, ap, ◌∙◌, ⊎_elim, append-nil, arith, drop_of_length-le, take_all, rules}
+use Rattle.std.proofs.Common.{◌≡◌, ◌<◌, length, take, set, sym, ap, ◌∙◌, append-nil, arith, drop_of_length-le, take_all, rules}
 use Rattle.slots.specs.declared.Slot.{Slot}
 use Rattle.slots.specs.Sweep.{freed, dropped_by}
 use Rattle.slots.specs.Model.{picks}
 use Rattle.slots.proofs.Tests.{long}
 use Rattle.slots.proofs.SweepLaws.{freed_none, dropped_none, freed_yes, freed_no, dropped_yes, dropped_no}
 use Rattle.slots.proofs.sweep.free_picked.Goals as goal
+use Rattle.slots.proofs.sweep.free_picked.Goals.{then-picked, else-picked}
 
 pub loop-i-init : goal.loop-i-init
 loop-i-init c = (search rules, freed_none (picks c.args.sweep) c.args.slots, dropped_none (picks c.args.sweep), search rules)
@@ -27,14 +28,14 @@ loop-i-preserved c =
     let n : length slots ≡ 8 = search (rules, long) in
     let h : at.i < length slots = omega arith in
     let small = c.requires at.i (omega arith) in
-    ⊎_elim
-    (λ w.
-    let t = sym c.picked.ensures ∙ w.0.taken in
-    (omega arith, w.3 ∙ ap (λ (s : Slot). set at.left at.i s) w.1.ensures ∙ freed_yes f slots at.i h at.left t at.invariant.1, w.4 ∙ dropped_yes f slots at.i h at.dropped t at.invariant.2, omega (arith, w.4)))
-    (λ w.
-    let t = sym c.picked.ensures ∙ w.0.left in
-    (omega arith, w.1 ∙ freed_no f slots at.i h at.left t at.invariant.1, w.2 ∙ dropped_no f slots at.i h at.dropped t at.invariant.2, omega (arith, w.2)))
-    c.if-picked.branch
+    elim c.if-picked.branch [
+      | then-picked w ↦
+          let t = sym c.picked.ensures ∙ w.if-picked.true in
+          (omega arith, w.left-is ∙ ap (λ (s : Slot). set at.left at.i s) w.free_slot.ensures ∙ freed_yes f slots at.i h at.left t at.invariant.1, w.dropped-is ∙ dropped_yes f slots at.i h at.dropped t at.invariant.2, omega (arith, w.dropped-is))
+      | else-picked w ↦
+          let t = sym c.picked.ensures ∙ w.if-picked.false in
+          (omega arith, w.left-is ∙ freed_no f slots at.i h at.left t at.invariant.1, w.dropped-is ∙ dropped_no f slots at.i h at.dropped t at.invariant.2, omega (arith, w.dropped-is))
+    ]
 
 pub returns : goal.returns
 returns c =

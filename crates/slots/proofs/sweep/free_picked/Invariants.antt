@@ -1,5 +1,5 @@
 -- Before each turn the slots below i are swept, their octets counted, and the others as they were.
-use Rattle.std.proofs.Common.{◌≡◌, ◌+◌, ◌-◌, ◌*◌, ◌≤◌, ◌++◌, take, drop}
+use Rattle.std.proofs.Common.{◌≡◌, ◌-◌, ◌*◌, ◌≤◌, ◌++◌, take, drop}
 use Rattle.slots.specs.Sweep.{freed, dropped_by}
 use Rattle.slots.specs.Model.{picks}
 use Rattle.slots.proofs.sweep.free_picked.Given as goal

@@ -1,7 +1,6 @@
 use mathlib.Core.Path.{◌∙◌}
 use native.Mathlib.Omega.{arith}
 use borrow.Author.Rules.{rules}
-use Prim.Native.Nat.{◌-◌}
 use Rattle.words.proofs.RowLaws.{rows_first, rows_next, rows_all, left_over, too_many, rows_read, unpacking_rows, other_rows_length, large_id, other_area}
 use Rattle.words.proofs.directory_words.directory_in.Goals as goal
 
@@ -25,4 +24,4 @@ loop-i-preserved c =
 pub returns : goal.returns
 returns c =
     let all = rows_all _ _ c.loop-i.d.rows c.loop-i.i (omega arith) c.loop-i.invariant.1 in
- record { answer = rows_read _ c.if-words-ne0.false c.if-n-gt-MOST_ROWS.false all; unpacking = unpacking_rows; other_length = other_rows_length; large_id = large_id; other_area = other_area }
+    record { answer = rows_read _ c.if-words-ne0.false c.if-n-gt-MOST_ROWS.false all; unpacking = unpacking_rows; other_length = other_rows_length; large_id = large_id; other_area = other_area }

@@ -9,11 +9,13 @@ use Rattle.words.proofs.TableLaws.{held_in, none_in, unpacking_table, other_tabl
 use Rattle.words.proofs.table_words.table_in.Goals as goal
 
 pub returns-then-words-ne-TABLE_WORDS : goal.returns-then-words-ne-TABLE_WORDS
-returns-then-words-ne-TABLE_WORDS c = (
-  none_in _ c.args.words.now c.if-words-ne-TABLE_WORDS.true
-      (ap (λ (s : Slot). the (record { busy = 2 ^ 32 - 1; slots = s ∷ s ∷ s ∷ s ∷ s ∷ s ∷ s ∷ s ∷ [] })) c.free_slot-none.ensures),
-  (unpacking_table, (other_table_length, first_table)),
-)
+returns-then-words-ne-TABLE_WORDS c = record {
+  answer = none_in _ c.args.words.now c.if-words-ne-TABLE_WORDS.true
+      (ap (λ (s : Slot). the (record { busy = 2 ^ 32 - 1; slots = s ∷ s ∷ s ∷ s ∷ s ∷ s ∷ s ∷ s ∷ [] })) c.free_slot-none.ensures);
+  unpacking = unpacking_table;
+  other_length = other_table_length;
+  first_state = first_table;
+}
   where
     the : Table → Table
     the t = t
@@ -25,7 +27,7 @@ returns c =
     (λ i. record {
       busy = c.word-busy.ensures i;
       slots =
-          c.slot_within.ensures i
+          c.slot_in.ensures i
           ∷ c.slot_in-2.ensures i
           ∷ c.slot_in-3.ensures i
           ∷ c.slot_in-4.ensures i
@@ -35,4 +37,4 @@ returns c =
           ∷ c.slot_in-8.ensures i
           ∷ [];
     }) in
- record { answer = held; unpacking = unpacking_table; other_length = other_table_length; first_state = first_table }
+    record { answer = held; unpacking = unpacking_table; other_length = other_table_length; first_state = first_table }
