@@ -91,14 +91,7 @@ fn after_line(
     let number = add(run.lines, 1);
     let place = print_number(rt, number, text, run.place)?;
     match bench_lines::read_hex(line, LONGEST_LINE, octets) {
-        HexRead::Octets(n) => Ok(after_octets(
-            run,
-            number,
-            front(octets, n),
-            again,
-            text,
-            place,
-        )),
+        HexRead::Octets(n) => Ok(after_octets(run, number, front(octets, n), again, text, place)),
         HexRead::Refused(refusal) => Ok(after_refusal(
             run,
             number,
