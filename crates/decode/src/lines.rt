@@ -7,7 +7,7 @@ use apdu::{Lists, Message};
 use apdu_reading::Answer;
 use apdu_writing::ApduWritten;
 use bench_lines::HexRead;
-use libc::STDIN_FILENO;
+use std::io::{self, Read};
 
 // The most characters of a line.
 const LONGEST_LINE: usize = 2048;
@@ -80,26 +80,36 @@ fn after_octets(
 }
 
 // The run after a line that has ended.
-fn after_line(run: Run, line: &[u8], octets: &mut [u8], again: &mut [u8], text: &mut [u8]) -> Run {
+fn after_line(
+    rt: &impl Print,
+    run: Run,
+    line: &[u8],
+    octets: &mut [u8],
+    again: &mut [u8],
+    text: &mut [u8],
+) -> io::Result<Run> {
     let number = add(run.lines, 1);
-    let place = print_number(number, text, run.place);
+    let place = print_number(rt, number, text, run.place)?;
     match bench_lines::read_hex(line, LONGEST_LINE, octets) {
-        HexRead::Octets(n) => after_octets(run, number, front(octets, n), again, text, place),
-        HexRead::Refused(refusal) => {
-            after_refusal(run, number, print_refusal(refusal, 0, text, place))
-        }
+        HexRead::Octets(n) => Ok(after_octets(run, number, front(octets, n), again, text, place)),
+        HexRead::Refused(refusal) => Ok(after_refusal(
+            run,
+            number,
+            print_refusal(refusal, 0, text, place),
+        )),
     }
 }
 
 // The run after the octets of `input`: each line feed ends a line, and what stands behind the last one is kept in `line`.
 fn after_input(
+    rt: &impl Print,
     run: Run,
     input: &[u8],
     line: &mut [u8],
     octets: &mut [u8],
     again: &mut [u8],
     text: &mut [u8],
-) -> Run {
+) -> io::Result<Run> {
     let mut now = run;
     let mut at: usize = 0;
     while at < input.len() {
@@ -107,54 +117,61 @@ fn after_input(
         let held = bench_lines::keep_part(&input[at..end], line, now.held);
         if end == input.len() {
             now.held = held;
-            return now;
+            return Ok(now);
         }
         at = end + 1;
-        now = after_line(now, front(line, held), octets, again, text);
+        now = after_line(rt, now, front(line, held), octets, again, text)?;
     }
-    now
+    Ok(now)
 }
 
-// The run after all of standard input. A proved loop has to end, so the loop counts its turns down from a number that no run uses up.
+// The run after all of standard input. A proved loop has to end, so the loop counts its turns up to a number that no run uses up.
 fn after_all(
+    rt: &(impl Input + Print),
     run: Run,
     input: &mut [u8],
     line: &mut [u8],
     octets: &mut [u8],
     again: &mut [u8],
     text: &mut [u8],
-) -> Run {
+) -> io::Result<Run> {
+    let mut reader = rt.reader();
     let mut now = run;
-    let mut turns = u64::MAX;
-    while turns > 0 {
-        let got = libc::read(STDIN_FILENO, input);
-        if got <= 0 {
-            return now;
+    for _ in 0..u64::MAX {
+        let n = reader.read(input)?;
+        if n == 0 {
+            return Ok(now);
         }
-        let n = io::count(got, input);
-        now = after_input(now, front(input, n), line, octets, again, text);
-        turns -= 1;
+        now = after_input(rt, now, front(input, n), line, octets, again, text)?;
     }
-    now
+    Ok(now)
 }
 
 // The run after the text behind the last line feed, which is a line if it is not empty.
-fn after_rest(run: Run, line: &[u8], octets: &mut [u8], again: &mut [u8], text: &mut [u8]) -> Run {
+fn after_rest(
+    rt: &impl Print,
+    run: Run,
+    line: &[u8],
+    octets: &mut [u8],
+    again: &mut [u8],
+    text: &mut [u8],
+) -> io::Result<Run> {
     let held = run.held;
     if held == 0 {
-        return run;
+        return Ok(run);
     }
-    after_line(run, front(line, held), octets, again, text)
+    after_line(rt, run, front(line, held), octets, again, text)
 }
 
-// The heading, a line for each line of standard input, and the totals.
+// The heading, a line for each line of standard input, and the totals. A failed read or write ends the run with its error.
 pub(crate) fn run(
+    rt: &(impl Input + Print),
     input: &mut [u8],
     line: &mut [u8],
     octets: &mut [u8],
     again: &mut [u8],
     text: &mut [u8],
-) {
+) -> io::Result<()> {
     let start = Run {
         lines: 0,
         messages: 0,
@@ -163,7 +180,7 @@ pub(crate) fn run(
         held: 0,
         place: print_heading(text),
     };
-    let all = after_all(start, input, line, octets, again, text);
-    let end = after_rest(all, line, octets, again, text);
-    print_totals(end.messages, end.refused, end.same, text, end.place);
+    let all = after_all(rt, start, input, line, octets, again, text)?;
+    let end = after_rest(rt, all, line, octets, again, text)?;
+    print_totals(rt, end.messages, end.refused, end.same, text, end.place)
 }

@@ -6,6 +6,11 @@
 mod lines;
 mod printing;
 
+use std::io;
+
+// The octets of the buffers for input and for text.
+const BUFFER_OCTETS: usize = 65536;
+
 // What goes on from line to line: the lines counted, the totals, the octets of a line that has not ended, the octets of text not yet written.
 #[derive(Clone, Copy)]
 pub struct Run {
@@ -17,11 +22,18 @@ pub struct Run {
     pub place: usize,
 }
 
-fn main() {
-    let mut input = io::large_buffer();
+fn main(rt: HostRuntime) -> io::Result<()> {
+    let mut input = [0u8; BUFFER_OCTETS];
     let mut line = [0u8; 2049];
     let mut octets = [0u8; 1024];
     let mut again = [0u8; 512];
-    let mut text = io::large_buffer();
-    lines::run(&mut input, &mut line, &mut octets, &mut again, &mut text);
+    let mut text = [0u8; BUFFER_OCTETS];
+    lines::run(
+        &rt,
+        &mut input,
+        &mut line,
+        &mut octets,
+        &mut again,
+        &mut text,
+    )
 }

@@ -1,7 +1,7 @@
 // Text is gathered in a buffer and written when a line may have no more room.
 use apdu::{Lists, Message};
 use bench_lines::Appended;
-use libc::STDOUT_FILENO;
+use std::io;
 
 // More characters than the line of any message has: each of its 512 octets shows as fewer than eight characters.
 const LONGEST_TEXT: usize = 8192;
@@ -15,8 +15,8 @@ pub(crate) fn front(s: &[u8], n: usize) -> &[u8] {
 }
 
 // Writes the first `place` octets of `text` to standard output.
-fn flush(text: &[u8], place: usize) {
-    io::write_all(STDOUT_FILENO, front(text, place));
+fn flush(rt: &impl Print, text: &[u8], place: usize) -> io::Result<()> {
+    rt.write_all(front(text, place))
 }
 
 // The place behind appended text, or the place before it where it had no room.
@@ -41,19 +41,24 @@ fn left(all: usize, place: usize) -> usize {
 }
 
 // Where the next line starts: the text at `place` is written first where a line may have no room.
-fn line_start(text: &[u8], place: usize) -> usize {
+fn line_start(rt: &impl Print, text: &[u8], place: usize) -> io::Result<usize> {
     if left(text.len(), place) < LONGEST_TEXT {
-        flush(text, place);
-        return 0;
+        flush(rt, text, place)?;
+        return Ok(0);
     }
-    place
+    Ok(place)
 }
 
 // The number of a line and a space behind the text at `place`.
-pub(crate) fn print_number(number: u64, text: &mut [u8], place: usize) -> usize {
-    let start = line_start(text, place);
+pub(crate) fn print_number(
+    rt: &impl Print,
+    number: u64,
+    text: &mut [u8],
+    place: usize,
+) -> io::Result<usize> {
+    let start = line_start(rt, text, place)?;
     let space = next_place(apdu_text::append_decimal(number, text, start), start);
-    next_place(apdu_text::append_word(b" ", text, space), space)
+    Ok(next_place(apdu_text::append_word(b" ", text, space), space))
 }
 
 fn print_end(text: &mut [u8], place: usize) -> usize {
@@ -85,11 +90,18 @@ pub(crate) fn print_message(
 }
 
 // Writes the text at `place` and the totals behind it.
-pub(crate) fn print_totals(messages: u64, refused: u64, same: u64, text: &mut [u8], place: usize) {
-    flush(text, place);
+pub(crate) fn print_totals(
+    rt: &impl Print,
+    messages: u64,
+    refused: u64,
+    same: u64,
+    text: &mut [u8],
+    place: usize,
+) -> io::Result<()> {
+    flush(rt, text, place)?;
     let end = next_place(
         apdu_text::append_totals(messages, refused, same, text, 0),
         0,
     );
-    flush(text, end);
+    flush(rt, text, end)
 }
