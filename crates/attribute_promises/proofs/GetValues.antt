@@ -59,7 +59,7 @@ module _ (f w : ℕ) (rows : List Row) (fine : sound_directory f w rows ≡ true
 rows_close : (at : ℕ) (rows : List Row) → closes (length rows) (attributes_at at rows) ≡ true
 unfolding closes attributes_at
 rows_close at [] = refl
-rows_close at (r ∷ rows) = let e : 0 + length rows ≡ length rows = omega arith in rw e (rows_close (at + r.length) rows)
+rows_close at (r ∷ rows) = let e : 0 + length rows ≡ length rows = omega arith in rw (e, closes) (rows_close (at + r.length) rows)
 
 -- ---- the reply
 

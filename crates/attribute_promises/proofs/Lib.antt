@@ -11,4 +11,3 @@ pub mod Replies
 pub mod GetValues
 pub mod Refusals
 pub mod RefusesOnly
-pub mod Cited

@@ -13,8 +13,6 @@ use Rattle.refusals.specs.Check.{pick}
 use Rattle.bits.specs.Bits.{Octets, field, read_field}
 use Rattle.bits.specs.Strings.{is_inside, string_at, copy_fits, copy_string}
 use Rattle.bits.proofs.Laws.{field_octet, field_lt, below_drop, below_take}
-use Rattle.apdu.specs.declared.records.Message.TheVariants as kind
-use Rattle.apdu.specs.Sound.{sound}
 use Rattle.directory.specs.declared.Row.{Row}
 use Rattle.directory.specs.declared.Found.{Found}
 use Rattle.directory.specs.Directory.{area_octets, row_sound, sound_directory, row_of, finding}
