@@ -6,4 +6,4 @@ use Rattle.exports.proofs.fragments.semuryeon_fragment.Goals as goal
 pub returns : goal.returns
 returns c =
     let joined = c.joined.ensures in
- record { answer = fragment_exported _ _ _ _ _ _ _ _ _ _ _ joined c.fragment_number.ensures; demand = exported_demand; runs = exported_runs_exist }
+    record { answer = fragment_exported _ _ _ _ _ _ _ _ _ _ _ joined c.fragment_number.ensures; demand = exported_demand; runs = exported_runs_exist }

@@ -10,10 +10,10 @@ pub returns-in-Fields : goal.returns-in-Fields
 unfolding read_answer read_number
 returns-in-Fields c =
     let read = sym (ap read_answer c.in-Fields.is) ∙ c.read.ensures.answer in
- record { answer = c.packed.ensures.answer ∙ ap (answer_number _ _ _) c.size_and_mark.ensures ∙ ap read_number read; unpacking = unpacking_read }
+    record { answer = c.packed.ensures.answer ∙ ap (answer_number _ _ _) c.size_and_mark.ensures ∙ ap read_number read; unpacking = unpacking_read }
 
 pub returns-in-Refused : goal.returns-in-Refused
 unfolding read_answer read_number
 returns-in-Refused c =
     let read = sym (ap read_answer c.in-Refused.is) ∙ c.read.ensures.answer in
- record { answer = c.packed-in-Refused.ensures.answer ∙ ap read_number read; unpacking = unpacking_read }
+    record { answer = c.packed-in-Refused.ensures.answer ∙ ap read_number read; unpacking = unpacking_read }

@@ -16,7 +16,7 @@ returns-in-Octets c =
     let told = c.packed.ensures.answer ∙ sym (ap (λ (x : HeaderWritten). written_number (write_answer x)) c.in-Octets.is) in
     let written =
     written_by (header_from c.args.last c.args.number c.args.counter) _ c.args.out.now _ _ c.write.result header c.write.ensures.answer told in
- record { answer = written; unpacking = unpacking_written; large_number = large_number }
+    record { answer = written; unpacking = unpacking_written; large_number = large_number }
 
 pub returns-in-Refused : goal.returns-in-Refused
 unfolding header_from written_number write_answer
@@ -26,4 +26,4 @@ returns-in-Refused c =
     let told = c.packed-in-Refused.ensures.answer ∙ sym (ap (λ (x : HeaderWritten). written_number (write_answer x)) c.in-Refused.is) in
     let written =
     written_by (header_from c.args.last c.args.number c.args.counter) _ c.args.out.now _ _ c.write.result header c.write.ensures.answer told in
- record { answer = written; unpacking = unpacking_written; large_number = large_number }
+    record { answer = written; unpacking = unpacking_written; large_number = large_number }

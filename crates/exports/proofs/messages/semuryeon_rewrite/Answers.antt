@@ -7,4 +7,4 @@ use Rattle.exports.proofs.messages.semuryeon_rewrite.Goals as goal
 pub returns : goal.returns
 returns c =
     let e = c.rewrite-answer.ensures.answer in
- record { answer = (c.rewritten.ensures ∙ ap written_number e.0, e.1); unpacking = unpacking_rewritten }
+    record { answer = (c.rewritten.ensures ∙ ap written_number e.0, e.1); unpacking = unpacking_rewritten }
