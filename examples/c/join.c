@@ -1,5 +1,5 @@
 /* Joins three fragments of one message and prints its text; then shows a refusal. tests/exports/run.sh builds and runs it; by hand:
- *   gcc -Iinclude examples/c/join.c target/staticlib/libexports.a -o join */
+ *   gcc -Iinclude examples/c/join.c crates/exports/out/libexports.a -o join */
 #include <stdio.h>
 #include <string.h>
 

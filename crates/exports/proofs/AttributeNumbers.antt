@@ -6,7 +6,7 @@ use mathlib.Core.List.{List, [], ◌∷◌}
 use native.Mathlib.Omega.{arith}
 use lib.Dec.{eqb, ltb, leb}
 use lib.ListN.{length}
-use borrow.Author.Tests.{ne_eqb, lt-ltb, le-ltb, ltb-true, ltb-false, leb-true}
+use borrow.Author.Tests.{ne_eqb, le-ltb, ltb-true, ltb-false, leb-true}
 use Rattle.refusals.specs.Check.{pick, check, first_of, decided}
 use Rattle.refusals.proofs.Tests.{by_test, by_cases, numbers_to, first_le}
 use Rattle.apdu_format.specs.Reading.{read_message}

@@ -1,15 +1,13 @@
 -- The words after a link call are the link after it: what is put there is in range. Assumes nothing.
-use Prim.Native.Nat.{ℕ, ◌<◌, ◌^◌}
+use Prim.Native.Nat.{ℕ, ◌^◌}
 use mathlib.Core.Path.{◌≡◌, refl, ap, sym, ◌∙◌}
 use mathlib.Core.Bool.{Bool, true, false, not, ◌&&◌}
 use mathlib.Core.List.{List, [], ◌∷◌}
-use native.Mathlib.Omega.{arith}
 use lib.ListN.{length}
 use lib.Dec.{eqb, ltb}
-use borrow.Author.Tests.{eqb-true, eqb-false, ltb-true, lt-ltb, not-false}
+use borrow.Author.Tests.{eqb-true, eqb-false, not-false}
 use Rattle.refusals.specs.Check.{Check, check, first_of}
 use Rattle.refusals.proofs.Tests.{by_test, by_cases, and_true, first_none}
-use Rattle.apdu_format.specs.Component.{choice, lead}
 use Rattle.apdu_format.specs.Table.{layout_of}
 use Rattle.apdu_format.specs.Rules.{shape, checks_of, brings}
 use Rattle.apdu_format.specs.Reading.{Value, fields, numbers_of, through}

@@ -19,7 +19,7 @@ returns-then-out-n c = record { answer = no_room _ _ (omega arith) (omega arith)
 pub returns-then-n-eq1 : goal.returns-then-n-eq1
 returns-then-n-eq1 c =
     let l = c.length_for-n.ensures in
- record { answer = put _ _ (omega arith) (omega arith) l (_ ∷ []) (omega arith) (omega arith) (octets_one _ (omega arith) (for_one _ l c.if-n-eq1.true) c.first_octet.ensures); again = writing_read }
+    record { answer = put _ _ (omega arith) (omega arith) l (_ ∷ []) (omega arith) (omega arith) (octets_one _ (omega arith) (for_one _ l c.if-n-eq1.true) c.first_octet.ensures); again = writing_read }
 
 pub bounds-out-1 : goal.bounds-out-1
 bounds-out-1 c = simp length-set (omega arith)
@@ -28,7 +28,7 @@ pub returns-then-n-eq2 : goal.returns-then-n-eq2
 returns-then-n-eq2 c =
     let l = c.length_for-n.ensures in
     let r = for_two _ l c.if-n-eq2.true in
- record { answer = put _ _ (omega arith) (omega arith) l (_ ∷ _ ∷ []) (omega arith) (omega arith) (octets_two _ (omega arith) r.0 r.1 c.first_octet-then-n-eq2.ensures c.next_octet.ensures); again = writing_read }
+    record { answer = put _ _ (omega arith) (omega arith) l (_ ∷ _ ∷ []) (omega arith) (omega arith) (octets_two _ (omega arith) r.0 r.1 c.first_octet-then-n-eq2.ensures c.next_octet.ensures); again = writing_read }
 
 pub bounds-out-0-2 : goal.bounds-out-0-2
 bounds-out-0-2 c =
@@ -46,4 +46,4 @@ pub returns : goal.returns
 returns c =
     let l = c.length_for-n.ensures in
     let r = for_three _ l c.if-n-eq1.false c.if-n-eq2.false in
- record { answer = put _ _ (omega arith) (omega arith) l (_ ∷ _ ∷ _ ∷ []) (omega arith) (omega arith) (octets_three _ (omega arith) r.0 c.first_octet-2.ensures c.next_octet-2.ensures c.next_octet-3.ensures); again = writing_read }
+    record { answer = put _ _ (omega arith) (omega arith) l (_ ∷ _ ∷ _ ∷ []) (omega arith) (omega arith) (octets_three _ (omega arith) r.0 c.first_octet-2.ensures c.next_octet-2.ensures c.next_octet-3.ensures); again = writing_read }

@@ -37,13 +37,15 @@ overflow_add-second c =
     omega (arith, (facts _ c.has_form.ensures c.if-not-has_form.false-raw c.find-second.ensures).inside)
 
 pub put_octets-requires : goal.put_octets-requires
-put_octets-requires c =
-    (
-      whole_octets _ c.has_form.ensures c.if-not-has_form.false-raw c.find-second.ensures,
-      omega arith,
-      hex_behind _ c.has_form.ensures c.if-not-has_form.false-raw c.find-second.ensures,
-    )
+put_octets-requires c = (
+  whole_octets _ c.has_form.ensures c.if-not-has_form.false-raw c.find-second.ensures,
+  omega arith,
+  hex_behind _ c.has_form.ensures c.if-not-has_form.false-raw c.find-second.ensures,
+)
 
 pub returns : goal.returns
-returns c = record { answer = whole_line_law _ c.has_form.ensures c.if-not-has_form.false-raw c.find-second.ensures _ _ c.number_in-lid.ensures c.number_in-tick.ensures (omega arith)
-          c.put_octets.ensures; printed = reading_printed }
+returns c = record {
+  answer = whole_line_law _ c.has_form.ensures c.if-not-has_form.false-raw c.find-second.ensures _ _ c.number_in-lid.ensures c.number_in-tick.ensures (omega arith)
+      c.put_octets.ensures;
+  printed = reading_printed;
+}
