@@ -6,7 +6,7 @@ cd "$(dirname "${BASH_SOURCE[0]}")/../.." || exit 1
 export PYTHONDONTWRITEBYTECODE=1
 work=$(mktemp -d) || exit 1
 trap 'rm -rf "$work"' EXIT
-mkdir "$work/tests" && cp -r crates "$work/crates" && cp -r tests/promises "$work/tests/promises" || exit 1
+mkdir "$work/tests" && tar --exclude=out -cf - crates | tar -xf - -C "$work" && cp -r tests/promises "$work/tests/promises" || exit 1
 passed=0
 failed=0
 
@@ -65,22 +65,22 @@ wrong 'call renamed' crates/reassembly/src/fragment_call.rt 's/^pub fn fragment(
 # others of the same kinds
 edit crates/reassembly/src/fragment_call.rt '/ensures demand /d'
 wrong 'clause and row deleted' $list '/| reassembly::fragment demand |/d' 'rows and its head says'
-wrong 'call hidden' crates/reassembly/src/lib.rt '/^pub use fragment_call::fragment;/d' "$demand: there is no public function reassembly::fragment"
-wrong 'clause weakened' crates/reassembly/src/fragment_call.rt 's/⌜ Demanded ⌝/⌜ Demanded ⊎ Unit ⌝/' "$demand: $otherwise"
+wrong 'call hidden' crates/reassembly/src/lib.rt 's/^pub use fragment_call::{fragment, fragment_change};/pub use fragment_call::fragment_change;/' "$demand: there is no public function reassembly::fragment"
+wrong 'clause weakened' crates/reassembly/src/fragment_call.rt 's/ensures demand { Demanded }/ensures demand { Demanded ⊎ Unit }/' "$demand: $otherwise"
 wrong 'another statement cited' crates/reassembly/src/fragment_call.rt 's/Demand3.{Demanded}/Runs.{Ran as Demanded}/' "$demand: clause \"demand\" of reassembly::fragment does not name it"
-wrong 'definition three levels down' crates/slots/specs/Slots.antt 's/^slotCount = 8/slotCount = 9/' "$demand: $otherwise"
-wrong 'definition deleted' crates/slots/specs/Slots.antt '/^abbrev pub slotCount/,/^$/d' "$demand: slots/specs/Slots.antt:slotCount is gone"
-wrong 'another name imported' crates/reassembly/specs/Demand3.antt 's/lib.Dec.{eqb}/lib.Dec.{leb as eqb}/' "$demand: $otherwise"
+wrong 'definition three levels down' crates/slots/specs/Slots.antt 's/^slot_count = 8/slot_count = 9/' "$demand: $otherwise"
+wrong 'definition deleted' crates/slots/specs/Slots.antt '/^abbrev pub slot_count/,/^$/d' "$demand: slots/specs/Slots.antt:slot_count is gone"
+wrong 'another name imported' crates/reassembly/specs/Demand3.antt 's/, length, eqb}/, length, leb as eqb}/' "$demand: $otherwise"
 wrong 'field of a struct' crates/slots/src/lib.rt 's/pub busy: u32/pub busy: u64/' "$demand: $otherwise"
-wrong 'field of a record' crates/reassembly/specs/Demand3.antt '/pub is-sound :/d' "$demand: $otherwise"
+wrong 'field of a record' crates/reassembly/specs/Demand3.antt '/pub table_is_sound :/d' "$demand: $otherwise"
 wrong 'statement that nothing holds' crates/slots/specs/Slots.antt '$a unfoldable pub Kept : Type 0\nKept = Table' 'slots/specs/Slots.antt:Kept is a statement that nothing holds'
-wrong 'contract of a call that no library calls' crates/bench_joining/src/joining.rt 's/⌜ LineTaken .* ⌝/⌜ r ≡ r ⌝/' \
+wrong 'contract of a call that no library calls' crates/bench_joining/src/joining.rt 's/ensures { LineTaken .* }/ensures { result ≡ result }/' \
     'clause "ensures" of bench_joining::take_line does not name it'
 wrong 'contract whose definition no row reaches' $list '/| apdu::clamped ensures |/d' \
     'clause "ensures" of clamped in apdu/src/lists.rt names apdu/specs/Tables.antt:lesser, which no row holds'
-wrong 'answer that means another number' crates/header/specs/Header.antt 's/^readAnswer (read.Refused k) = refused k/readAnswer (read.Refused k) = refused 5/' \
-    "(header/specs/Header.antt:readAnswer, header::read answer): $otherwise"
-wrong 'definition behind a field of the same name' crates/apdu/specs/Sound.antt 's/soundIf (m .«has_ids»)/soundIf (m .«has_iid»)/' "$cases: $otherwise"
+wrong 'answer that means another number' crates/header/specs/Header.antt 's/^read_answer (read.Refused k) = refused k/read_answer (read.Refused k) = refused 5/' \
+    "(header/specs/Header.antt:read_answer, header::read answer): $otherwise"
+wrong 'definition behind a field of the same name' crates/apdu/specs/Sound.antt 's/sound_if m.has_ids/sound_if m.has_iid/' "$cases: $otherwise"
 wrong 'row twice' $list '/| reassembly::fragment demand |/p' 'the row stands twice'
 
 rm "$work/crates/apdu/must-fail/ids_by_iid.edit" && edited=crates/apdu/must-fail/ids_by_iid.edit
