@@ -1,6 +1,6 @@
 /* Semuryeon: the proved message layer of a toll tag and its lane reader.
  *
- * Link target/staticlib/libexports.a (`rt staticlib exports`; x86-64). examples/c/join.c is a whole program.
+ * Link crates/exports/out/libexports.a (`rt lib` in crates/exports; x86-64). examples/c/join.c is a whole program.
  *
  * Every function takes any numbers and any octets and ends without a fault. A pointer with its length must be a real one (with length 0 it is not
  * followed), and what is lent must not overlap. Nothing is allocated, and nothing is kept between two calls but what is lent.
