@@ -1,6 +1,46 @@
-// The refusal numbers of document 01, each under one name. docs/FAULTS.md is the card: condition, and where it is checked.
+// The refusals of document 01, each with its number there. docs/FAULTS.md is the card: condition, and where it is checked.
 
 #![tactic(auto)]
+
+ghost use Rattle.std.specs.Prelude.{◌≡◌};
+ghost use Rattle.refusals.specs.Refusal.{number_of};
+
+#[derive(Clone, Copy, Debug, PartialEq, Eq)]
+pub enum Refusal {
+    StoreOrOutputLength = 1,
+    TableNotSound = 2,
+    LidOutOfRange = 3,
+    LsduLength = 4,
+    HeaderNotValid = 5,
+    NumberReserved = 6,
+    NoPayload = 7,
+    NotOpen = 8,
+    NoFreeSlot = 9,
+    CounterNotExpected = 10,
+    CounterExhausted = 11,
+    MessageTooLong = 12,
+    CutShort = 13,
+    OctetsLeft = 14,
+    ChoiceUnknown = 15,
+    ExtensionBit = 16,
+    ContainerKind = 17,
+    CountTooLarge = 18,
+    TooDeep = 19,
+    ApduTooLong = 21,
+    OutputTooSmall = 22,
+    RecordOutOfRange = 23,
+    NotServed = 24,
+    LinkNotReady = 25,
+    ListNotSound = 26,
+}
+
+impl From<Refusal> for u8 {
+    ghost from_gives = { λ refusal number. number ≡ number_of refusal };
+
+    fn from(refusal: Refusal) -> u8 {
+        refusal as u8
+    }
+}
 
 pub const STORE_OR_OUTPUT_LENGTH: u8 = 1;
 
