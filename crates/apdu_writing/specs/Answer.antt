@@ -1,6 +1,6 @@
 -- What writing a message answers and leaves in the output (01, "Messages": 23 before 21 before 22; refusal table, rows 21 to 23).
 -- Assumes nothing.
-use Rattle.std.specs.Prelude.{ℕ, List, [], ◌∷◌, ◌++◌, not, length, drop, ltb, eqb}
+use Rattle.std.specs.Prelude.{ℕ, Result, Ok, Err, List, [], ◌∷◌, ◌++◌, not, length, drop, ltb, eqb}
 use Rattle.refusals.specs.Check.{pick, check, first_of}
 use Rattle.apdu_format.specs.Limits.{longest_message}
 use Rattle.apdu_format.specs.Writing.{size, encoded_octets}
@@ -8,8 +8,8 @@ use Rattle.apdu.specs.declared.lists.Row.{Row}
 use Rattle.apdu.specs.declared.lists.Entry.{Entry}
 use Rattle.apdu.specs.declared.records.Message.{Message}
 use Rattle.apdu.specs.Values.{values_of}
-use Rattle.apdu_writing.specs.declared.writing.ApduWritten.{ApduWritten}
-use Rattle.apdu_writing.specs.declared.writing.ApduWritten.TheVariants as written
+use Rattle.apdu_writing.specs.declared.writing.WriteRefusal.{WriteRefusal}
+use Rattle.apdu_writing.specs.declared.writing.WriteRefusal.TheVariants as refusal
 use Rattle.apdu.specs.Sound.{well_formed}
 
 -- 01's number, with its position where it has one; or how many octets were written
@@ -18,11 +18,11 @@ pub data Answer : Type 0 where
   refused_at : ℕ → ℕ → Answer
   octets : ℕ → Answer
 
-unfoldable pub answer_of : ApduWritten → Answer
-answer_of written.RecordOutOfRange = refused 23
-answer_of (written.MessageTooLong p) = refused_at 21 p
-answer_of written.OutputTooSmall = refused 22
-answer_of (written.Octets n) = octets n
+unfoldable pub answer_of : Result ℕ WriteRefusal → Answer
+answer_of (Ok n) = octets n
+answer_of (Err refusal.RecordOutOfRange) = refused 23
+answer_of (Err (refusal.MessageTooLong p)) = refused_at 21 p
+answer_of (Err refusal.OutputTooSmall) = refused 22
 
 -- the refusal of writing to an output of n octets, or 0
 unfoldable pub write_refusal : List ℕ → Message → List Entry → List Row → ℕ → ℕ

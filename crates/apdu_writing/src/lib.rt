@@ -14,4 +14,4 @@ mod quill;
 mod rows;
 mod writing;
 
-pub use writing::{ApduWritten, well_formed, write};
+pub use writing::{WriteRefusal, well_formed, write};

@@ -27,24 +27,23 @@ pub fn well_formed(message: Message, rows: [Row; 32], entries: [Entry; 32], lent
     size.ok
 }
 
-// What writing answers: 23, 21 with its position, 22, or how many octets were written.
-#[derive(Clone, Copy)]
-pub enum ApduWritten {
+// Why a message is not written; 21 carries its position, the octets that a message has at most.
+#[derive(Clone, Copy, Debug, PartialEq, Eq)]
+pub enum WriteRefusal {
     RecordOutOfRange,
     MessageTooLong(usize),
     OutputTooSmall,
-    Octets(usize),
 }
 
-// Writes the message to the front of `out`; every other octet of `out` stays. A refusal changes nothing: 23 where the record breaks a range, a limit or a
-// depth of what is present, or a part lies outside `lent`; then 21 above 512 octets; then 22 where `out` is too short.
+// Writes the message to the front of `out` and gives its octets; every other octet of `out` stays. A refusal changes nothing: 23 where the record breaks a
+// range, a limit or a depth of what is present, or a part lies outside `lent`; then 21 above 512 octets; then 22 where `out` is too short.
 pub fn write(
     message: Message,
     rows: [Row; 32],
     entries: [Entry; 32],
     lent: &[u8],
     out: &mut [u8],
-) -> ApduWritten
+) -> Result<usize, WriteRefusal>
     ensures { (answer_of result ≡ write_answer lent.now message entries rows (length out.old)) × (out.new ≡ write_output lent.now message entries rows out.old) }
 {
     let mut page: [u8; 512] = [0; 512];
@@ -61,15 +60,15 @@ pub fn write(
         },
     );
     if !end.ok {
-        return ApduWritten::RecordOutOfRange;
+        return Err(WriteRefusal::RecordOutOfRange);
     }
     let octets = end.at as usize;
     if apdu::LONGEST_MESSAGE < octets {
-        return ApduWritten::MessageTooLong(apdu::LONGEST_MESSAGE);
+        return Err(WriteRefusal::MessageTooLong(apdu::LONGEST_MESSAGE));
     }
     if out.len() < octets {
-        return ApduWritten::OutputTooSmall;
+        return Err(WriteRefusal::OutputTooSmall);
     }
     let copied = bits::copy_string(&page, 0, octets, out, 0);
-    ApduWritten::Octets(octets)
+    Ok(octets)
 }
