@@ -8,7 +8,7 @@ use native.Mathlib.Omega.{arith}
 use lib.ListN.{length, get_or}
 use Rattle.refusals.specs.Check.{first_of, Answer, refused, accepted, decided}
 use Rattle.bits.specs.Bits.{digits, bits, number, field, octets}
-use Rattle.header.specs.Header.{end_bit, header_length, counter_in, length_for, header_of, read_refusal, read_header, read_answer, header_bits, header_octets, write_refusal, write_header, write_answer, output_after}
+use Rattle.header.specs.Header.{end_bit, header_length, counter_in, length_for, header_of, read_refusal, read_header, header_bits, header_octets, write_refusal, write_header, output_after}
 use Rattle.header.proofs.Writing.{accepted_is}
 use Rattle.header.specs.HeaderCases.{made, HeaderCasesHold}
 
@@ -27,7 +27,7 @@ second : List ℕ → ℕ
 second l = get_or l 1 0
 
 pub header_cases_hold : HeaderCasesHold
-unfolding first_of decided digits bits number field octets end_bit header_length counter_in length_for header_of read_refusal read_header read_answer header_bits header_octets write_refusal write_header write_answer output_after octets_in Equal first second
+unfolding first_of decided digits bits number field octets end_bit header_length counter_in length_for header_of read_refusal read_header header_bits header_octets write_refusal write_header output_after octets_in Equal first second
 header_cases_hold = record {
   reading = refl;
   writing = refl;

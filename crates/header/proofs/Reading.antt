@@ -8,11 +8,10 @@ use native.Mathlib.Omega.{arith}
 use lib.Dec.{eqb}
 use lib.ListN.{length, get_or}
 use borrow.Author.Tests.{eq-eqb, ne_eqb, lt-ltb, le-ltb}
-use Rattle.refusals.specs.Check.{first_of, decided}
+use Rattle.refusals.specs.Check.{first_of, refused, accepted, decided}
 use Rattle.bits.specs.Bits.{field}
 use Rattle.bits.proofs.Laws.{field_in_octet}
-use Rattle.header.specs.Header.{end_bit, header_length, counter_in, length_for, header_of, read_refusal, read_header, read_answer}
-use Rattle.header.specs.declared.HeaderRead.TheVariants as read
+use Rattle.header.specs.Header.{end_bit, header_length, counter_in, length_for, header_of, read_refusal, read_header}
 
 pub length_one : {c : ℕ} → c < 4 → 1 ≡ length_for c
 unfolding length_for
@@ -87,13 +86,13 @@ module _ (s : List ℕ) where
   -- ---- the answers
 
   module _ {n : ℕ} (is : n ≡ header_length s) where
-    pub cut_short : length s < n → read_answer (read.Refused 5) ≡ read_header s
-    unfolding read_answer read_header read_refusal first_of decided
+    pub cut_short : length s < n → refused 5 ≡ read_header s
+    unfolding read_header read_refusal first_of decided
     cut_short h = simp (← is, lt-ltb _ _ h)
 
     module _ (long : n ≤ length s) {b : Bool} (third : b ≡ (eqb n 3 && eqb (end_bit s 2) 1)) where
-      pub third_bit : b ≡ true → read_answer (read.Refused 5) ≡ read_header s
-      unfolding read_answer read_header read_refusal first_of decided
+      pub third_bit : b ≡ true → refused 5 ≡ read_header s
+      unfolding read_header read_refusal first_of decided
       third_bit t = simp (← is, le-ltb _ _ long, ← third, t)
 
       module _ (f : b ≡ false) {k m : ℕ} (c : k ≡ counter_in s n) (l : m ≡ length_for k) where
@@ -105,13 +104,13 @@ module _ (s : List ℕ) where
         unfolding header_of
         headed e g = rw (← is, ← last_is e g, ← number_is e g, ← c)
 
-        pub overlong : m < n → read_answer (read.Refused 5) ≡ read_header s
-        unfolding read_answer read_header read_refusal first_of decided
+        pub overlong : m < n → refused 5 ≡ read_header s
+        unfolding read_header read_refusal first_of decided
         overlong h = simp (← is, le-ltb _ _ long, ← third, f, counter_is, ← l, lt-ltb _ _ h)
 
         pub whole : {x : ℕ} → n ≤ m → x ≡ get_or s 0 0 → x < 256
-            → read_answer (read.Fields (record { last = eqb (x / 128) 1; number = x / 8 % 16; counter = k }) n) ≡ read_header s
-        unfolding read_answer read_header read_refusal first_of decided
+            → accepted (record { header = record { last = eqb (x / 128) 1; number = x / 8 % 16; counter = k }; size = n }) ≡ read_header s
+        unfolding read_header read_refusal first_of decided
         whole {x} h e g =
             let w = headed e g in
             simp (← is, le-ltb _ _ long, ← third, f, counter_is, ← l, le-ltb _ _ h, w)

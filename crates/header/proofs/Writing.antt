@@ -11,12 +11,11 @@ use lib.ListN.{length, length-append, drop}
 use lib.Seq.{sets, sets-eq, drop_at}
 use borrow.Author.Tests.{lt-ltb, le-ltb, ltb-true, ltb-false}
 use Rattle.refusals.proofs.Tests.{by_cases, first_none, decided_accepted}
-use Rattle.refusals.specs.Check.{first_of, Answer, accepted, decided}
+use Rattle.refusals.specs.Check.{first_of, Answer, refused, accepted, decided}
 use Rattle.bits.specs.Bits.{digits, number, octets}
 use Rattle.bits.proofs.Laws.{number_front, number_digits, length_digits}
-use Rattle.header.specs.Header.{bit_of, first_bits, next_bits, header_bits, header_octets, length_for, write_refusal, write_header, write_answer, output_after}
+use Rattle.header.specs.Header.{bit_of, first_bits, next_bits, header_bits, header_octets, length_for, write_refusal, write_header, output_after}
 use Rattle.header.specs.declared.Header.{Header}
-use Rattle.header.specs.declared.HeaderWritten.TheVariants as written
 use Rattle.header.proofs.Reading.{length_one, length_two, length_three}
 
 pub first_last : {l : Bool} (n c e : ℕ) {v : ℕ} → l ≡ true → v ≡ 128 + (n * 8 + c % 4 * 2 + e) → v ≡ bit_of l * 128 + n * 8 + c % 4 * 2 + e
@@ -146,22 +145,22 @@ module _ (h : Header) (out : List ℕ) where
   abbrev pub Wrote : Answer ℕ → List ℕ → Type 0
   Wrote a out' = (a ≡ write_header h (length out)) × (out' ≡ output_after a h out)
 
-  pub number_over : 15 < h.number → Wrote (write_answer (written.Refused 23)) out
-  unfolding write_header write_refusal first_of decided write_answer output_after
+  pub number_over : 15 < h.number → Wrote (refused 23) out
+  unfolding write_header write_refusal first_of decided output_after
   number_over n = (simp (lt-ltb _ _ n), refl)
 
   module _ (n : h.number ≤ 15) where
-    pub counter_over : 65535 < h.counter → Wrote (write_answer (written.Refused 23)) out
-    unfolding write_header write_refusal first_of decided write_answer output_after
+    pub counter_over : 65535 < h.counter → Wrote (refused 23) out
+    unfolding write_header write_refusal first_of decided output_after
     counter_over k = (simp (le-ltb _ _ n, lt-ltb _ _ k), refl)
 
     module _ (k : h.counter ≤ 65535) {m : ℕ} (is : m ≡ length_for h.counter) where
-      pub no_room : length out < m → Wrote (write_answer (written.Refused 22)) out
-      unfolding write_header write_refusal first_of decided write_answer output_after
+      pub no_room : length out < m → Wrote (refused 22) out
+      unfolding write_header write_refusal first_of decided output_after
       no_room l = (simp (← is, le-ltb _ _ n, le-ltb _ _ k, lt-ltb _ _ l), refl)
 
-      pub put : (o : List ℕ) → m ≤ length out → length o ≡ m → o ≡ header_octets h → Wrote (write_answer (written.Octets m)) (sets out 0 o)
-      unfolding write_header write_refusal first_of decided write_answer output_after
+      pub put : (o : List ℕ) → m ≤ length out → length o ≡ m → o ≡ header_octets h → Wrote (accepted m) (sets out 0 o)
+      unfolding write_header write_refusal first_of decided output_after
       put o l e f =
           let s : sets out 0 o ≡ o ++ drop (length o) out = simp zero-add at (sets-eq o out 0 (simp zero-add (omega arith))) in (
             simp (← is, le-ltb _ _ n, le-ltb _ _ k, le-ltb _ _ l),

@@ -12,13 +12,14 @@ use Rattle.refusals.specs.Check.{accepted}
 use Rattle.refusals.proofs.Tests.{by_cases, first_none, decided_accepted}
 use Rattle.bits.specs.Bits.{Octets, digits, bits, field}
 use Rattle.bits.proofs.Laws.{field_lt, digits_field, digits_above, octets_take}
-use Rattle.header.specs.Header.{Fields, end_bit, header_length, counter_in, length_for, header_of, read_refusal, read_header, bit_of, first_bits, next_bits, header_bits, header_octets}
+use Rattle.header.specs.Header.{end_bit, header_length, counter_in, length_for, header_of, read_refusal, read_header, bit_of, first_bits, next_bits, header_bits, header_octets}
 use Rattle.header.specs.declared.Header.{Header}
+use Rattle.header.specs.declared.HeaderRead.{HeaderRead}
 use Rattle.header.proofs.Reading.{length_one, length_two, length_three}
 use Rattle.header.proofs.Writing.{InRange, first_bits_law, first_length, next_bits_law, next_length, needs_two, needs_three}
 
 -- the octets read are the header's
-pub record Again (s : List ℕ) (f : Fields) : Type 0 where
+pub record Again (s : List ℕ) (f : HeaderRead) : Type 0 where
   pub in_range : InRange f.header
   pub inside : f.size ≤ length s
   pub needs : length_for f.header.counter ≡ f.size
@@ -159,7 +160,7 @@ module _ (s : List ℕ) (octs : Octets s) where
       (λ u. writes_two (eqb-false (end_bit s 0) 1 t) (eqb-true (end_bit s 1) 1 u) k o)
       (λ u. writes_three (eqb-false (end_bit s 0) 1 t) (eqb-false (end_bit s 1) 1 u) (third (eqb-false (end_bit s 0) 1 t) (eqb-false (end_bit s 1) 1 u) b.0) k o))
 
-pub again : (s : List ℕ) (f : Fields) → Octets s → read_header s ≡ accepted f → Again s f
+pub again : (s : List ℕ) (f : HeaderRead) → Octets s → read_header s ≡ accepted f → Again s f
 unfolding read_header
 again s f octs e =
     let d = decided_accepted (read_refusal s) (record { header = header_of s; size = header_length s }) f e in

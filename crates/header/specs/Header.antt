@@ -3,14 +3,13 @@
 --   second octet, if the first's end bit is 0: seven more bits of counter, end bit
 --   third octet, if the second's end bit is 0: seven more bits of counter, and a 0 (6.3.3.7)
 -- Assumes nothing.
-use Rattle.std.specs.Prelude.{ℕ, ◌+◌, ◌*◌, ◌/◌, Bool, true, false, ◌&&◌, List, [], ◌∷◌, ◌++◌, length, drop, ltb, eqb}
+use Rattle.std.specs.Prelude.{ℕ, ◌+◌, ◌*◌, ◌/◌, Bool, true, false, ◌&&◌, List, [], ◌∷◌, ◌++◌, length, drop, ltb, eqb, Result, Ok, Err}
 use Rattle.refusals.specs.Check.{pick, check, first_of, Answer, refused, accepted, decided}
+use Rattle.refusals.specs.Refusal.{number_of}
+use Rattle.refusals.specs.declared.Refusal.{Refusal}
 use Rattle.bits.specs.Bits.{digits, field, octets}
 use Rattle.header.specs.declared.Header.{Header}
 use Rattle.header.specs.declared.HeaderRead.{HeaderRead}
-use Rattle.header.specs.declared.HeaderRead.TheVariants as read
-use Rattle.header.specs.declared.HeaderWritten.{HeaderWritten}
-use Rattle.header.specs.declared.HeaderWritten.TheVariants as written
 
 -- ---- reading
 
@@ -46,18 +45,14 @@ read_refusal s =
     ∷ []
     )
 
--- a header that is read, with its size in octets
-pub record Fields : Type 0 where
-  pub header : Header
-  pub size : ℕ
-
-unfoldable pub read_header : List ℕ → Answer Fields
+-- the header that is read, with its size in octets
+unfoldable pub read_header : List ℕ → Answer HeaderRead
 read_header s = decided (read_refusal s) (record { header = header_of s; size = header_length s })
 
 -- 01's number and values for each case of the reader's answer
-unfoldable pub read_answer : HeaderRead → Answer Fields
-read_answer (read.Fields h n) = accepted (record { header = h; size = n })
-read_answer (read.Refused k) = refused k
+abbrev pub read_answer : Result HeaderRead Refusal → Answer HeaderRead
+read_answer (Ok read) = accepted read
+read_answer (Err refusal) = refused (number_of refusal)
 
 -- ---- writing
 
@@ -94,9 +89,9 @@ unfoldable pub write_header : Header → ℕ → Answer ℕ
 write_header h n = decided (write_refusal h n) (length_for h.counter)
 
 -- 01's number and value for each case of the writer's answer
-unfoldable pub write_answer : HeaderWritten → Answer ℕ
-write_answer (written.Octets n) = accepted n
-write_answer (written.Refused k) = refused k
+abbrev pub write_answer : Result ℕ Refusal → Answer ℕ
+write_answer (Ok octets) = accepted octets
+write_answer (Err refusal) = refused (number_of refusal)
 
 -- the output after an answer: the header's octets at its front and the rest as it was; a refusal leaves all as it was
 unfoldable pub output_after : Answer ℕ → Header → List ℕ → List ℕ

@@ -2,28 +2,27 @@
 -- are read as; what writing a header answers and leaves in the output; what the answers of both calls mean; and when octets read
 -- are octets written again.
 -- Assumes nothing.
-use Rattle.std.specs.Prelude.{ℕ, ◌≡◌, Bool, true, false, List, [], ◌∷◌, map, length}
+use Rattle.std.specs.Prelude.{ℕ, ◌≡◌, Bool, true, false, List, [], ◌∷◌, map, length, Result, Ok, Err}
 use Rattle.refusals.specs.Check.{Answer, refused, accepted}
+use Rattle.refusals.specs.declared.Refusal.{Refusal}
+use Rattle.refusals.specs.declared.Refusal.TheVariants as refusal
 use Rattle.header.specs.declared.Header.{Header}
 use Rattle.header.specs.declared.HeaderRead.{HeaderRead}
-use Rattle.header.specs.declared.HeaderRead.TheVariants as read
-use Rattle.header.specs.declared.HeaderWritten.{HeaderWritten}
-use Rattle.header.specs.declared.HeaderWritten.TheVariants as written
-use Rattle.header.specs.Header.{Fields, read_header, read_answer, write_header, write_answer, output_after}
+use Rattle.header.specs.Header.{read_header, read_answer, write_header, write_answer, output_after}
 use Rattle.header.specs.RoundTrip.{Rewritten, WrittenAs}
 
 -- last mark, message number and counter; and with the size in octets
 abbrev pub made : Bool → (number counter : ℕ) → Header
 made last number counter = record { last = last; number = number; counter = counter }
 
-abbrev pub sized : Bool → (number counter size : ℕ) → Fields
+abbrev pub sized : Bool → (number counter size : ℕ) → HeaderRead
 sized last number counter size = record { header = made last number counter; size = size }
 
 -- ---- reading
 
 pub record Reading : Type 0 where
   pub octets : List ℕ
-  pub gives : Answer Fields
+  pub gives : Answer HeaderRead
 
 abbrev pub reads : List ℕ → Bool → (number counter size : ℕ) → Reading
 reads s last number counter size = record { octets = s; gives = accepted (sized last number counter size) }
@@ -98,11 +97,11 @@ writings =
 
 -- ---- answers: an answer's own values, and a refusal's own number, whichever it is
 
-abbrev pub answers_of_reading : List HeaderRead
-answers_of_reading = read.Fields (made true 3 4) 6 ∷ read.Refused 5 ∷ read.Refused 7 ∷ []
+abbrev pub answers_of_reading : List (Result HeaderRead Refusal)
+answers_of_reading = Ok (sized true 3 4 6) ∷ Err refusal.HeaderNotValid ∷ Err refusal.NoPayload ∷ []
 
-abbrev pub answers_of_writing : List HeaderWritten
-answers_of_writing = written.Octets 6 ∷ written.Refused 22 ∷ written.Refused 23 ∷ written.Refused 7 ∷ []
+abbrev pub answers_of_writing : List (Result ℕ Refusal)
+answers_of_writing = Ok 6 ∷ Err refusal.OutputTooSmall ∷ Err refusal.RecordOutOfRange ∷ Err refusal.NoPayload ∷ []
 
 -- ---- what is proved
 

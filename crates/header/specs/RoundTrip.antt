@@ -5,8 +5,9 @@
 use Rattle.std.specs.Prelude.{ℕ, ◌≤◌, ◌≡◌, List, ◌++◌, length, take, drop, ltb}
 use Rattle.refusals.specs.Check.{pick, refused, accepted}
 use Rattle.bits.specs.Bits.{Octets}
-use Rattle.header.specs.Header.{Fields, read_header, write_header, output_after}
+use Rattle.header.specs.Header.{read_header, write_header, output_after}
 use Rattle.header.specs.declared.Header.{Header}
+use Rattle.header.specs.declared.HeaderRead.{HeaderRead}
 
 -- reading what was written to the front of an output gives the header and its size, whatever follows it there
 unfoldable pub ReadingWritten : Type 0
@@ -15,7 +16,7 @@ ReadingWritten =
     → read_header (output_after (accepted n) h output) ≡ accepted (record { header = h; size = n })
 
 -- the header f, read from s, is written to the front of an output
-pub record Rewritten (s : List ℕ) (f : Fields) (output : List ℕ) : Type 0 where
+pub record Rewritten (s : List ℕ) (f : HeaderRead) (output : List ℕ) : Type 0 where
   -- the octets read lie in s
   pub inside : f.size ≤ length s
   -- only an output that is shorter than these is refused, with 22
@@ -25,7 +26,7 @@ pub record Rewritten (s : List ℕ) (f : Fields) (output : List ℕ) : Type 0 wh
 
 -- writing what was read gives the octets read
 unfoldable pub WritingRead : Type 0
-WritingRead = (s : List ℕ) (f : Fields) (output : List ℕ) → Octets s → read_header s ≡ accepted f → Rewritten s f output
+WritingRead = (s : List ℕ) (f : HeaderRead) (output : List ℕ) → Octets s → read_header s ≡ accepted f → Rewritten s f output
 
 -- s is what some output holds after the header h was written to its front in n octets
 pub record WrittenAs (s : List ℕ) (h : Header) (n : ℕ) : Type 0 where

@@ -6,7 +6,9 @@ ghost use Rattle.std.specs.Prelude.{◌≡◌, ◌&&◌, ◌+◌, ◌*◌, ◌%�
 ghost use Rattle.header.specs.Header.{end_bit, header_length, counter_in, length_for, read_header, read_answer, bit_of, write_header, write_answer, output_after};
 ghost use Rattle.header.specs.RoundTrip.{ReadingWritten, ReadingExact, WritingRead};
 
-#[derive(Clone, Copy)]
+use refusals::Refusal;
+
+#[derive(Clone, Copy, Debug, PartialEq, Eq)]
 pub struct Header {
     // 01's last mark: this fragment ends its message.
     pub last: bool,
@@ -16,18 +18,11 @@ pub struct Header {
     pub counter: u32,
 }
 
-#[derive(Clone, Copy)]
-pub enum HeaderRead {
-    // The header, and its size in octets.
-    Fields { header: Header, size: usize },
-    Refused(u8),
-}
-
-#[derive(Clone, Copy)]
-pub enum HeaderWritten {
-    // How many octets the header takes at the front of the output.
-    Octets(usize),
-    Refused(u8),
+// A header that was read, and its size in octets.
+#[derive(Clone, Copy, Debug, PartialEq, Eq)]
+pub struct HeaderRead {
+    pub header: Header,
+    pub size: usize,
 }
 
 pub const LARGEST_NUMBER: u8 = 15;
@@ -38,7 +33,7 @@ pub const LARGEST_COUNTER: u32 = 65535;
 fn octet(s: &[u8], i: usize) -> u32
     ensures { (result ≡ get_or s.now i 0) × (result < 256) }
 {
-    bits::octet(s, i) as u32
+    u32::from(bits::octet(s, i))
 }
 
 fn end_bit(s: &[u8], i: usize) -> u32
@@ -52,12 +47,12 @@ fn length_of(s: &[u8]) -> usize
     ensures { result ≡ header_length s.now }
 {
     if end_bit(s, 0) == 1 {
-        return 1;
+        1
+    } else if end_bit(s, 1) == 1 {
+        2
+    } else {
+        3
     }
-    if end_bit(s, 1) == 1 {
-        return 2;
-    }
-    3
 }
 
 // The counter of a header of `n` octets.
@@ -80,62 +75,50 @@ fn length_for(counter: u32) -> usize
     ensures { result ≡ length_for counter }
 {
     if counter < 4 {
-        return 1;
+        1
+    } else if counter < 512 {
+        2
+    } else {
+        3
     }
-    if counter < 512 {
-        return 2;
-    }
-    3
 }
 
 // A third octet whose bit 0 is 1.
 fn third_ends(s: &[u8], n: usize) -> bool
     ensures { result ≡ (eqb n 3 && eqb (end_bit s.now 2) 1) }
 {
-    if n == 3 {
-        return end_bit(s, 2) == 1;
-    }
-    false
+    n == 3 && end_bit(s, 2) == 1
 }
 
 // The header at the front of `s`; 5 where it is cut short, its third octet's bit 0 is 1, or it is longer than its counter needs.
-pub fn read(s: &[u8]) -> HeaderRead
+pub fn read(s: &[u8]) -> Result<HeaderRead, Refusal>
     ensures answer { read_answer result ≡ read_header s.now }
     ensures written { ReadingWritten }
     ensures exact { ReadingExact }
 {
     let size = length_of(s);
-    if s.len() < size {
-        return HeaderRead::Refused(refusals::HEADER_NOT_VALID);
-    }
-    if third_ends(s, size) {
-        return HeaderRead::Refused(refusals::HEADER_NOT_VALID);
+    if s.len() < size || third_ends(s, size) {
+        return Err(Refusal::HeaderNotValid);
     }
     let counter = counter_in(s, size);
     if length_for(counter) < size {
-        return HeaderRead::Refused(refusals::HEADER_NOT_VALID);
+        return Err(Refusal::HeaderNotValid);
     }
     let first = octet(s, 0);
-    HeaderRead::Fields {
-        header: Header {
-            last: first / 128 == 1,
-            number: (first / 8 % 16) as u8,
-            counter,
-        },
-        size,
-    }
+    let header = Header {
+        last: first / 128 == 1,
+        number: (first / 8 % 16) as u8,
+        counter,
+    };
+    Ok(HeaderRead { header, size })
 }
 
 // The first octet: last mark, number, two bits of counter, end bit.
-fn first_octet(last: bool, number: u8, counter: u32, end: u32) -> u8
-    requires { (number ≤ 15) × (end ≤ 1) }
-    ensures { result ≡ bit_of last * 128 + number * 8 + counter % 4 * 2 + end }
+fn first_octet(h: Header, counter: u32, end: u32) -> u8
+    requires { (h.number ≤ 15) × (end ≤ 1) }
+    ensures { result ≡ bit_of h.last * 128 + h.number * 8 + counter % 4 * 2 + end }
 {
-    let rest = (number as u32) * 8 + counter % 4 * 2 + end;
-    if last {
-        return (128 + rest) as u8;
-    }
-    rest as u8
+    (u32::from(h.last) * 128 + u32::from(h.number) * 8 + counter % 4 * 2 + end) as u8
 }
 
 // A second or third octet: seven bits of counter, end bit.
@@ -147,34 +130,26 @@ fn next_octet(counter: u32, end: u32) -> u8
 }
 
 // Writes the header to the front of `out`; 23 for a field out of range, then 22 where `out` is too short.
-pub fn write(h: Header, out: &mut [u8]) -> HeaderWritten
+pub fn write(h: Header, out: &mut [u8]) -> Result<usize, Refusal>
     ensures answer { (write_answer result ≡ write_header h (length out.old)) × (out.new ≡ output_after (write_answer result) h out.old) }
     ensures again { WritingRead }
 {
-    let last = h.last;
-    let number = h.number;
-    let counter = h.counter;
-    if LARGEST_NUMBER < number {
-        return HeaderWritten::Refused(refusals::RECORD_OUT_OF_RANGE);
+    if LARGEST_NUMBER < h.number || LARGEST_COUNTER < h.counter {
+        return Err(Refusal::RecordOutOfRange);
     }
-    if LARGEST_COUNTER < counter {
-        return HeaderWritten::Refused(refusals::RECORD_OUT_OF_RANGE);
-    }
-    let n = length_for(counter);
+    let n = length_for(h.counter);
     if out.len() < n {
-        return HeaderWritten::Refused(refusals::OUTPUT_TOO_SMALL);
+        return Err(Refusal::OutputTooSmall);
     }
     if n == 1 {
-        out[0] = first_octet(last, number, counter, 1);
-        return HeaderWritten::Octets(n);
+        out[0] = first_octet(h, h.counter, 1);
+    } else if n == 2 {
+        out[0] = first_octet(h, h.counter / 128, 0);
+        out[1] = next_octet(h.counter, 1);
+    } else {
+        out[0] = first_octet(h, h.counter / 16384, 0);
+        out[1] = next_octet(h.counter / 128, 0);
+        out[2] = next_octet(h.counter, 0);
     }
-    if n == 2 {
-        out[0] = first_octet(last, number, counter / 128, 0);
-        out[1] = next_octet(counter, 1);
-        return HeaderWritten::Octets(n);
-    }
-    out[0] = first_octet(last, number, counter / 16384, 0);
-    out[1] = next_octet(counter / 128, 0);
-    out[2] = next_octet(counter, 0);
-    HeaderWritten::Octets(n)
+    Ok(n)
 }
