@@ -6,7 +6,7 @@ use mathlib.Core.List.{List}
 use native.Mathlib.Omega.{arith}
 use lib.ListN.{length, get_or}
 use Rattle.refusals.specs.Check.{first_of, decided}
-use Rattle.directory.specs.Directory.{row_sound, each_sound, share_octet, clashes, apart_from, all_apart, sound_directory, index_of, known_in, row_of, finding, lookup_row, knowing, answer_of}
+use Rattle.directory.specs.Directory.{row_sound, each_sound, share_octet, clashes, apart_from, all_apart, sound_directory, index_of, known_in, row_of, first_row, finding, lookup_row, knowing}
 use Rattle.directory.specs.Gathered.{with_row, gathered_from, list_of}
 use Rattle.directory.specs.DirectoryCases.{many, DirectoryCasesHold}
 
@@ -17,7 +17,7 @@ third : List ℕ → ℕ
 third l = get_or l 2 0
 
 pub directory_cases_hold : DirectoryCasesHold
-unfolding first_of decided row_sound each_sound share_octet clashes apart_from all_apart sound_directory index_of known_in row_of finding lookup_row knowing answer_of with_row gathered_from list_of many Equal third
+unfolding first_of decided row_sound each_sound share_octet clashes apart_from all_apart sound_directory index_of known_in row_of first_row finding lookup_row knowing with_row gathered_from list_of many Equal third
 directory_cases_hold = record {
   soundly = refl;
   looking = refl;

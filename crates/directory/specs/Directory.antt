@@ -1,12 +1,9 @@
 -- The directory (01, "Reading and setting attributes"): a list of attribute rows, when it is sound, and what looking up an id gives.
 -- Assumes nothing.
-use Rattle.std.specs.Prelude.{ℕ, suc, ◌+◌, Bool, true, false, not, ◌&&◌, ◌||◌, List, [], ◌∷◌, ltb, leb, eqb, length, get_or}
+use Rattle.std.specs.Prelude.{ℕ, suc, ◌+◌, Bool, true, false, not, ◌&&◌, ◌||◌, Option, Some, None, List, [], ◌∷◌, ltb, leb, eqb, length, get_or}
 use Rattle.std.specs.Borrow.{Bor}
-use Rattle.refusals.specs.Check.{pick, check, first_of, Answer, refused, accepted, decided}
+use Rattle.refusals.specs.Check.{pick, check, first_of, Answer, decided}
 use Rattle.directory.specs.declared.Row.{Row}
-use Rattle.directory.specs.declared.Found.{Found}
-use Rattle.directory.specs.declared.KnowsAnswer.{KnowsAnswer}
-use Rattle.directory.specs.declared.KnowsAnswer.TheVariants.{Known, Refused}
 use Rattle.directory.specs.Part.{PartOf}
 
 -- ---- limits
@@ -77,9 +74,13 @@ known_in id rows = ltb (index_of id rows) (length rows)
 unfoldable pub row_of : ℕ → List Row → Row
 row_of id rows = get_or rows (index_of id rows) no_row
 
--- whether a directory of at most 32 rows has the id, and its row
-unfoldable pub finding : List Row → ℕ → Found
-finding rows id = pick (leb (length rows) most_rows && known_in id rows) (record { known = true; row = row_of id rows }) (record { known = false; row = no_row })
+-- the first row with the id
+unfoldable pub first_row : List Row → ℕ → Option Row
+first_row rows id = pick (known_in id rows) (Some (row_of id rows)) None
+
+-- the first row with the id of a directory of at most 32 rows; of more, none
+unfoldable pub finding : List Row → ℕ → Option Row
+finding rows id = pick (leb (length rows) most_rows) (first_row rows id) None
 
 -- the row whose part lookup gives; without one, or in a directory that is not sound, the empty part at the factory area's front
 unfoldable pub lookup_row : (factory writable : ℕ) → List Row → ℕ → Row
@@ -97,8 +98,3 @@ pub record LookedUp (rows : List Row) (factory writable : Bor (List ℕ)) (id : 
 -- the second call: 26, else whether the id is known
 unfoldable pub knowing : (factory writable : ℕ) → List Row → ℕ → Answer Bool
 knowing factory writable rows id = decided (first_of (check 26 (not (sound_directory factory writable rows)) ∷ [])) (known_in id rows)
-
--- 01's number and value for each case of its answer
-unfoldable pub answer_of : KnowsAnswer → Answer Bool
-answer_of (Known b) = accepted b
-answer_of (Refused k) = refused k

@@ -2,16 +2,16 @@
 -- over a factory area of six octets and a writable area of four; whether they are sound, which row has an id, what both calls
 -- answer, and which part of which area lookup hands back.
 -- Assumes nothing.
-use Rattle.std.specs.Prelude.{ℕ, zero, suc, ◌≡◌, Bool, true, false, List, [], ◌∷◌, map, length, replicate}
+use Rattle.std.specs.Prelude.{ℕ, zero, suc, ◌≡◌, Bool, true, false, Option, Some, None, Result, Ok, Err, List, [], ◌∷◌, map, length, replicate}
 use Rattle.std.specs.Borrow.{Bor}
 use Rattle.refusals.specs.Check.{Answer, refused, accepted}
+use Rattle.refusals.specs.Refusal.{answer_of}
+use Rattle.refusals.specs.declared.Refusal.{Refusal}
+use Rattle.refusals.specs.declared.Refusal.TheVariants.{ListNotSound, NoPayload}
 use Rattle.directory.specs.declared.Row.{Row}
-use Rattle.directory.specs.declared.Found.{Found}
 use Rattle.directory.specs.declared.Directory.{Directory}
-use Rattle.directory.specs.declared.KnowsAnswer.{KnowsAnswer}
-use Rattle.directory.specs.declared.KnowsAnswer.TheVariants.{Known, Refused}
 use Rattle.directory.specs.Part.{PartOf}
-use Rattle.directory.specs.Directory.{sound_directory, index_of, row_of, finding, lookup_row, LookedUp, knowing, answer_of}
+use Rattle.directory.specs.Directory.{sound_directory, index_of, row_of, finding, lookup_row, LookedUp, knowing}
 use Rattle.directory.specs.Gathered.{no_directory, with_row, gathered, list_of}
 
 -- ---- rows
@@ -95,7 +95,7 @@ soundness =
 pub record Seen : Type 0 where
   pub index : ℕ
   pub has : Row
-  pub finds : Found
+  pub finds : Option Row
   pub gives : Row
   pub known : Answer Bool
 
@@ -118,28 +118,28 @@ abbrev pub knows : List Row → (id index : ℕ) → Row → Lookup
 knows rows id index r = record {
   rows = rows;
   id = id;
-  sees = record { index = index; has = r; finds = record { known = true; row = r }; gives = r; known = accepted true };
+  sees = record { index = index; has = r; finds = Some r; gives = r; known = accepted true };
 }
 
 abbrev pub unknown : List Row → (id index : ℕ) → Lookup
 unknown rows id index = record {
   rows = rows;
   id = id;
-  sees = record { index = index; has = zeros; finds = record { known = false; row = zeros }; gives = zeros; known = accepted false };
+  sees = record { index = index; has = zeros; finds = None; gives = zeros; known = accepted false };
 }
 
 abbrev pub not_sound : List Row → (id index : ℕ) → Row → Lookup
 not_sound rows id index r = record {
   rows = rows;
   id = id;
-  sees = record { index = index; has = r; finds = record { known = true; row = r }; gives = zeros; known = refused 26 };
+  sees = record { index = index; has = r; finds = Some r; gives = zeros; known = refused 26 };
 }
 
 abbrev pub too_many : List Row → (id index : ℕ) → Row → Lookup
 too_many rows id index r = record {
   rows = rows;
   id = id;
-  sees = record { index = index; has = r; finds = record { known = false; row = zeros }; gives = zeros; known = refused 26 };
+  sees = record { index = index; has = r; finds = None; gives = zeros; known = refused 26 };
 }
 
 abbrev pub lookups : List Lookup
@@ -157,8 +157,8 @@ lookups =
     ∷ []
 
 -- an answer's own value, and a refusal's own number, whichever it is
-abbrev pub answers : List KnowsAnswer
-answers = Known true ∷ Known false ∷ Refused 26 ∷ Refused 7 ∷ []
+abbrev pub answers : List (Result Bool Refusal)
+answers = Ok true ∷ Ok false ∷ Err ListNotSound ∷ Err NoPayload ∷ []
 
 -- ---- rows by value
 
