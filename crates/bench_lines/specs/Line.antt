@@ -2,12 +2,13 @@
 --   LID: 7 hex digits. Tick: a decimal number below 2^32, of any number of digits. LSDU: hex of even length; if empty, its space stays.
 -- The line feed is no part of a line. What 01 leaves open: an LSDU that is longer than the lent buffer is refused with 22, once the form is right.
 -- Assumes nothing.
-use Rattle.std.specs.Prelude.{ℕ, suc, ◌+◌, ◌/◌, ◌%◌, ◌^◌, Bool, true, ◌&&◌, List, [], ◌∷◌, ◌++◌, leb, ltb, eqb, length, drop}
+use Rattle.std.specs.Prelude.{ℕ, suc, ◌+◌, ◌/◌, ◌%◌, ◌^◌, Bool, true, ◌&&◌, List, [], ◌∷◌, ◌++◌, leb, ltb, eqb, length, drop, Result, Ok, Err}
 use Rattle.std.proofs.Math.Seq.{slice}
 use Rattle.refusals.specs.Check.{pick, Answer, refused, accepted}
 use Rattle.bench_lines.specs.Numerals.{all_digits, spelled, octets_of, digit_for, digits_before, decimal_before}
-use Rattle.bench_lines.specs.declared.LineRead.{LineRead}
-use Rattle.bench_lines.specs.declared.LineRead.TheVariants as read
+use Rattle.bench_lines.specs.declared.Line.{Line}
+use Rattle.bench_lines.specs.declared.LineRefusal.{LineRefusal}
+use Rattle.bench_lines.specs.declared.LineRefusal.TheVariants as refusal
 
 -- ---- 01's limits
 
@@ -83,10 +84,15 @@ unfoldable pub read_line : List ℕ → ℕ → Answer Fields
 read_line line room =
     pick (has_form line) (pick (leb (fields_of line).octets room) (accepted (fields_of line)) (refused 22)) (refused 0)
 
+-- 01's number of each refusal
+abbrev pub line_refusal_number : LineRefusal → ℕ
+line_refusal_number refusal.NotALine = 0
+line_refusal_number refusal.OutputTooSmall = 22
+
 -- 01's number and values for each case of the reader's answer
-unfoldable pub line_answer : LineRead → Answer Fields
-line_answer (read.Fields l t n) = accepted (record { lid = l; tick = t; octets = n })
-line_answer (read.Refused k) = refused k
+abbrev pub line_answer : Result Line LineRefusal → Answer Fields
+line_answer (Ok l) = accepted (record { lid = l.lid; tick = l.tick; octets = l.octets })
+line_answer (Err r) = refused (line_refusal_number r)
 
 -- the buffer after an answer: the LSDU at its front and the rest as it was; a refusal leaves all as it was
 unfoldable pub lsdu_after : Answer Fields → List ℕ → List ℕ → List ℕ

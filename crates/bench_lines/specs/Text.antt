@@ -8,8 +8,6 @@ use Rattle.bench_lines.specs.Numerals.{decimal_before}
 use Rattle.bench_lines.specs.declared.BenchAnswer.{BenchAnswer}
 use Rattle.bench_lines.specs.declared.BenchAnswer.TheVariants as answer
 use Rattle.bench_lines.specs.declared.Totals.{Totals}
-use Rattle.bench_lines.specs.declared.Appended.{Appended}
-use Rattle.bench_lines.specs.declared.Appended.TheVariants as appended
 
 -- ---- words and lines
 
@@ -77,11 +75,6 @@ has_room room at octets = leb (at + octets) room
 -- the place behind the text, or refusal 22 where it has no room
 unfoldable pub append_text : List ℕ → ℕ → List ℕ → Answer ℕ
 append_text out at text = pick (has_room (length out) at (length text)) (accepted (at + length text)) (refused 22)
-
--- 01's number and value for each case of the answer
-unfoldable pub appended_answer : Appended → Answer ℕ
-appended_answer (appended.Next n) = accepted n
-appended_answer (appended.Refused k) = refused k
 
 -- the buffer after an answer: with the text from the place on; a refusal leaves all as it was
 unfoldable pub output_after : Answer ℕ → List ℕ → ℕ → List ℕ → List ℕ

@@ -1,74 +1,37 @@
 // Digits of numbers, read and written.
-ghost use Rattle.std.specs.Prelude.{◌≡◌, ◌+◌, ◌*◌, ◌≤◌, ◌<◌, ◌++◌, true, length, take, drop};
-ghost use Rattle.std.proofs.Math.Seq.{slice};
+ghost use Rattle.std.specs.Prelude.{◌≡◌, ◌+◌, ◌*◌, ◌/◌, ◌%◌, ◌≤◌, ◌<◌, ◌++◌, true, length, take, drop};
 ghost use Rattle.bench_lines.specs.Numerals.{digit_value, all_digits, spelled, octets_of, digits_before, width};
-ghost use Rattle.bench_lines.specs.Inside.{capped};
-
-// One more than the largest tick; no number that is read counts further.
-pub(crate) const NUMBER_BOUND: u64 = 4294967296;
-
-fn wide(x: u8) -> u64
-    ensures { (result ≡ x) × (result < 256) }
-{
-    x as u64
-}
+ghost use Rattle.bench_lines.specs.Inside.{small};
 
 // The value of a hex digit of either case; 16 for any other character.
 fn digit_value(c: u8) -> u64
     ensures { (result ≡ digit_value c) × (result ≤ 16) }
 {
-    let x = wide(c);
-    if x < 48 {
-        return 16;
+    match c {
+        b'0'..=b'9' => u64::from(c - b'0'),
+        b'A'..=b'F' => u64::from(c - b'A') + 10,
+        b'a'..=b'f' => u64::from(c - b'a') + 10,
+        _ => 16,
     }
-    if x <= 57 {
-        return x - 48;
-    }
-    if x < 65 {
-        return 16;
-    }
-    if x <= 70 {
-        return x - 55;
-    }
-    if x < 97 {
-        return 16;
-    }
-    if x <= 102 {
-        return x - 87;
-    }
-    16
 }
 
-// Whether the characters from `from` up to `to` are digits of this base.
-pub(crate) fn digits_in(s: &[u8], from: usize, to: usize, base: u64) -> bool
-    requires { (from ≤ to) × (to ≤ length s.now) }
-    ensures { result ≡ all_digits base (slice from to s.now) }
+// Whether each character is a digit of this base.
+pub(crate) fn are_digits(s: &[u8], base: u64) -> bool
+    ensures { result ≡ all_digits base s.now }
 {
-    let mut i = from;
-    while i < to {
-        if base <= digit_value(s[i]) {
-            return false;
-        }
-        i += 1;
-    }
-    true
+    s.iter().all(|c| digit_value(*c) < base)
 }
 
-// The number that the digits from `from` up to `to` spell, or 2^32 where it is not below that.
-pub(crate) fn number_in(s: &[u8], from: usize, to: usize, base: u64) -> u64
-    requires { (from ≤ to) × (to ≤ length s.now) × (1 ≤ base) × (base ≤ 16) }
-    ensures { result ≡ capped (spelled base (slice from to s.now)) }
+// The number that digits spell, if it is below 2^32.
+pub(crate) fn number_of(s: &[u8], base: u64) -> Option<u32>
+    requires { (1 ≤ base) × (base ≤ 16) }
+    ensures { result ≡ small (spelled base s.now) }
 {
-    let mut v: u64 = 0;
-    let mut i = from;
-    while i < to {
-        v = v * base + digit_value(s[i]);
-        if NUMBER_BOUND <= v {
-            return NUMBER_BOUND;
-        }
-        i += 1;
+    let mut number: u32 = 0;
+    for c in s {
+        number = u32::try_from(u64::from(number) * base + digit_value(*c)).ok()?;
     }
-    v
+    Some(number)
 }
 
 // The octet that two hex digits spell.
@@ -79,15 +42,13 @@ fn octet_of(high: u8, low: u8) -> u8
     (digit_value(high) * 16 + digit_value(low)) as u8
 }
 
-// Writes the octets that the hex digits from `from` on spell to the front of `out`, `n` of them.
-pub(crate) fn put_octets(s: &[u8], from: usize, n: usize, out: &mut [u8])
-    requires { (from + 2 * n ≡ length s.now) × (n ≤ length out.old) × (all_digits 16 (drop from s.now) ≡ true) }
-    ensures { out.new ≡ octets_of (drop from s.now) ++ drop n out.old }
+// Writes the octets that hex digits spell to the front of `out`.
+pub(crate) fn put_octets(s: &[u8], out: &mut [u8])
+    requires { (length s.now % 2 ≡ 0) × (length s.now / 2 ≤ length out.old) × (all_digits 16 s.now ≡ true) }
+    ensures { out.new ≡ octets_of s.now ++ drop (length s.now / 2) out.old }
 {
-    let mut k: usize = 0;
-    while k < n {
-        out[k] = octet_of(s[from + 2 * k], s[from + 2 * k + 1]);
-        k += 1;
+    for k in 0..s.len() / 2 {
+        out[k] = octet_of(s[2 * k], s[2 * k + 1]);
     }
 }
 
@@ -110,10 +71,8 @@ pub(crate) fn put_digits(out: &mut [u8], at: usize, k: usize, n: u64)
     ensures { out.new ≡ take at out.old ++ digits_before 10 k n (drop (at + k) out.old) }
 {
     let mut rest = n;
-    let mut i = k;
-    while 0 < i {
-        i -= 1;
-        out[at + i] = 48 + (rest % 10) as u8;
+    for i in (0..k).rev() {
+        out[at + i] = b'0' + (rest % 10) as u8;
         rest /= 10;
     }
 }

@@ -1,29 +1,28 @@
 // A line that is hex and nothing else.
 ghost use Rattle.std.specs.Prelude.{◌≡◌, length};
-ghost use Rattle.bench_lines.specs.Hex.{read_hex, hex_answer, buffer_after_hex};
+ghost use Rattle.bench_lines.specs.Hex.{is_hex, read_hex, hex_answer, buffer_after_hex};
 
-use crate::digits::{digits_in, put_octets};
-use crate::{HexRead, NOT_A_LINE};
+use crate::LineRefusal;
+use crate::digits::{are_digits, put_octets};
 
-// Reads an even number of hex digits, at most `most`, to octets at the front of `buffer`. A refusal changes nothing: 0 where the line is not of this
-// form, then 22 where the buffer is too small.
-pub fn read_hex(line: &[u8], most: usize, buffer: &mut [u8]) -> HexRead
+// Reads an even number of hex digits, at most `most`, to octets at the front of `buffer`. A refusal changes nothing: first that the line is not of
+// this form, then that the buffer is too small.
+pub fn read_hex(line: &[u8], most: usize, buffer: &mut [u8]) -> Result<usize, LineRefusal>
     ensures { (hex_answer result ≡ read_hex line.now most (length buffer.old)) × (buffer.new ≡ buffer_after_hex (hex_answer result) line.now buffer.old) }
 {
-    let characters = line.len();
-    if most < characters {
-        return HexRead::Refused(NOT_A_LINE);
+    if !is_hex(line, most) {
+        return Err(LineRefusal::NotALine);
     }
-    if characters % 2 != 0 {
-        return HexRead::Refused(NOT_A_LINE);
-    }
-    if !digits_in(line, 0, characters, 16) {
-        return HexRead::Refused(NOT_A_LINE);
-    }
-    let octets = characters / 2;
+    let octets = line.len() / 2;
     if buffer.len() < octets {
-        return HexRead::Refused(refusals::OUTPUT_TOO_SMALL);
+        return Err(LineRefusal::OutputTooSmall);
     }
-    put_octets(line, 0, octets, buffer);
-    HexRead::Octets(octets)
+    put_octets(line, buffer);
+    Ok(octets)
+}
+
+fn is_hex(line: &[u8], most: usize) -> bool
+    ensures { result ≡ is_hex line.now most }
+{
+    line.len() <= most && line.len() % 2 == 0 && are_digits(line, 16)
 }

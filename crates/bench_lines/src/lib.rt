@@ -3,33 +3,52 @@
 
 #![tactic(auto)]
 
+ghost use Rattle.std.specs.Prelude.{◌≡◌};
+ghost use Rattle.bench_lines.specs.Line.{line_refusal_number};
+
 mod digits;
 mod hex;
-mod line;
+mod recording;
 mod splitting;
 mod text;
 
+use refusals::Refusal;
+
 // The most characters of a line, without its line feed.
 pub const LONGEST_LINE: usize = 600;
-// The refusal of a line that is not of 01's form.
-pub const NOT_A_LINE: u8 = 0;
 
-// A line's LID and tick, and how many octets of LSDU stand at the front of the lent buffer; or a refusal.
-#[derive(Clone, Copy)]
-pub enum LineRead {
-    Fields { lid: u32, tick: u32, octets: usize },
-    Refused(u8),
+const SPACE: u8 = b' ';
+
+const LINE_FEED: u8 = b'\n';
+
+// A line's LID and tick, and how many octets of LSDU stand at the front of the lent buffer.
+#[derive(Clone, Copy, Debug, PartialEq, Eq)]
+pub struct Line {
+    pub lid: u32,
+    pub tick: u32,
+    pub octets: usize,
 }
 
-// How many octets of a line of hex stand at the front of the lent buffer; or a refusal.
-#[derive(Clone, Copy)]
-pub enum HexRead {
-    Octets(usize),
-    Refused(u8),
+// Why a line is not read: it has not its form, or the lent buffer is too short for its octets.
+#[derive(Clone, Copy, Debug, PartialEq, Eq)]
+pub enum LineRefusal {
+    NotALine,
+    OutputTooSmall,
 }
 
-// The answers that a line of output can have.
-#[derive(Clone, Copy)]
+impl From<LineRefusal> for u8 {
+    ghost from_gives = { λ refusal number. number ≡ line_refusal_number refusal };
+
+    fn from(refusal: LineRefusal) -> u8 {
+        match refusal {
+            LineRefusal::NotALine => 0,
+            LineRefusal::OutputTooSmall => u8::from(Refusal::OutputTooSmall),
+        }
+    }
+}
+
+// The answers that a line of output can have. A refusal's number may be any: the text shows it as it is.
+#[derive(Clone, Copy, Debug, PartialEq, Eq)]
 pub enum BenchAnswer {
     Held,
     Whole,
@@ -37,7 +56,7 @@ pub enum BenchAnswer {
 }
 
 // Octets, over all lines.
-#[derive(Clone, Copy)]
+#[derive(Clone, Copy, Debug, PartialEq, Eq)]
 pub struct Totals {
     pub accepted: u64,
     pub delivered: u64,
@@ -45,14 +64,7 @@ pub struct Totals {
     pub held: u64,
 }
 
-#[derive(Clone, Copy)]
-pub enum Appended {
-    // The place behind the text.
-    Next(usize),
-    Refused(u8),
-}
-
 pub use hex::read_hex;
-pub use line::read_line;
+pub use recording::read_line;
 pub use splitting::{keep_part, line_end};
 pub use text::{append_answer, append_heading, append_totals};

@@ -1,24 +1,18 @@
 // The text of what the bench prints, appended to a lent buffer.
 ghost use Rattle.std.specs.Prelude.{◌≡◌, ◌+◌, ◌≤◌, length};
 ghost use Rattle.bench_lines.specs.Inside.{Placed};
-ghost use Rattle.bench_lines.specs.Text.{number_text, named_text, answer_text, heading_text, answer_line_text, totals_text, has_room, append_text, appended_answer, output_after};
+ghost use Rattle.bench_lines.specs.Text.{number_text, named_text, answer_text, heading_text, answer_line_text, totals_text, has_room, append_text, output_after};
+ghost use Rattle.refusals.specs.Refusal.{answer_of};
 
 use crate::digits::{put_digits, width_of};
-use crate::splitting::copy;
-use crate::{Appended, BenchAnswer, Totals};
-
-const SPACE: u8 = b' ';
-
-const LINE_FEED: u8 = b'\n';
+use crate::{BenchAnswer, LINE_FEED, SPACE, Totals};
+use refusals::Refusal;
 
 // Whether so many octets lie inside a buffer from place `at` on.
 fn has_room(room: usize, at: usize, octets: usize) -> bool
     ensures { result ≡ has_room room at octets }
 {
-    if room < octets {
-        return false;
-    }
-    at <= room - octets
+    octets <= room && at <= room - octets
 }
 
 // Writes a word to `out` from place `at` on, and answers the place behind it.
@@ -26,8 +20,9 @@ fn put_word(out: &mut [u8], at: usize, word: &[u8]) -> usize
     requires { at + length word.now ≤ length out.old }
     ensures { Placed out.old at word.now out.new result }
 {
-    copy(word, word.len(), out, at);
-    at + word.len()
+    let next = at + word.len();
+    out[at..next].copy_from_slice(word);
+    next
 }
 
 // Writes a number in decimal and the character behind it.
@@ -57,7 +52,7 @@ fn answer_octets(answer: BenchAnswer) -> usize
     match answer {
         BenchAnswer::Held => 5,
         BenchAnswer::Whole => 6,
-        BenchAnswer::Refused(number) => 9 + width_of(number as u64),
+        BenchAnswer::Refused(number) => 9 + width_of(u64::from(number)),
     }
 }
 
@@ -69,21 +64,21 @@ fn put_answer(out: &mut [u8], at: usize, answer: BenchAnswer) -> usize
     match answer {
         BenchAnswer::Held => put_word(out, at, b"held "),
         BenchAnswer::Whole => put_word(out, at, b"whole "),
-        BenchAnswer::Refused(number) => put_named(out, at, b"refused-", number as u64, SPACE),
+        BenchAnswer::Refused(number) => put_named(out, at, b"refused-", u64::from(number), SPACE),
     }
 }
 
-// Appends the heading from place `at` on; 22, and nothing written, where it has no room.
-pub fn append_heading(out: &mut [u8], at: usize) -> Appended
-    ensures { (appended_answer result ≡ append_text out.old at heading_text) × (out.new ≡ output_after (appended_answer result) out.old at heading_text) }
+// Appends the heading from place `at` on; refused, and nothing written, where it has no room.
+pub fn append_heading(out: &mut [u8], at: usize) -> Result<usize, Refusal>
+    ensures { (answer_of result ≡ append_text out.old at heading_text) × (out.new ≡ output_after (answer_of result) out.old at heading_text) }
 {
     if !has_room(out.len(), at, 27) {
-        return Appended::Refused(refusals::OUTPUT_TOO_SMALL);
+        return Err(Refusal::OutputTooSmall);
     }
-    Appended::Next(put_word(out, at, b"line answer octets dropped\n"))
+    Ok(put_word(out, at, b"line answer octets dropped\n"))
 }
 
-// Appends the line of an answer from place `at` on; 22, and nothing written, where it has no room.
+// Appends the line of an answer from place `at` on; refused, and nothing written, where it has no room.
 pub fn append_answer(
     line: u64,
     answer: BenchAnswer,
@@ -91,22 +86,22 @@ pub fn append_answer(
     dropped: u64,
     out: &mut [u8],
     at: usize,
-) -> Appended
-    ensures { (appended_answer result ≡ append_text out.old at (answer_line_text line answer octets dropped)) × (out.new ≡ output_after (appended_answer result) out.old at (answer_line_text line answer octets dropped)) }
+) -> Result<usize, Refusal>
+    ensures { (answer_of result ≡ append_text out.old at (answer_line_text line answer octets dropped)) × (out.new ≡ output_after (answer_of result) out.old at (answer_line_text line answer octets dropped)) }
 {
     let n = width_of(line) + answer_octets(answer) + width_of(octets) + width_of(dropped) + 3;
     if !has_room(out.len(), at, n) {
-        return Appended::Refused(refusals::OUTPUT_TOO_SMALL);
+        return Err(Refusal::OutputTooSmall);
     }
     let second = put_number(out, at, line, SPACE);
     let third = put_answer(out, second, answer);
     let fourth = put_number(out, third, octets, SPACE);
-    Appended::Next(put_number(out, fourth, dropped, LINE_FEED))
+    Ok(put_number(out, fourth, dropped, LINE_FEED))
 }
 
-// Appends the totals from place `at` on; 22, and nothing written, where they have no room.
-pub fn append_totals(totals: Totals, out: &mut [u8], at: usize) -> Appended
-    ensures { (appended_answer result ≡ append_text out.old at (totals_text totals)) × (out.new ≡ output_after (appended_answer result) out.old at (totals_text totals)) }
+// Appends the totals from place `at` on; refused, and nothing written, where they have no room.
+pub fn append_totals(totals: Totals, out: &mut [u8], at: usize) -> Result<usize, Refusal>
+    ensures { (answer_of result ≡ append_text out.old at (totals_text totals)) × (out.new ≡ output_after (answer_of result) out.old at (totals_text totals)) }
 {
     let n = width_of(totals.accepted)
         + width_of(totals.delivered)
@@ -114,10 +109,10 @@ pub fn append_totals(totals: Totals, out: &mut [u8], at: usize) -> Appended
         + width_of(totals.held)
         + 36;
     if !has_room(out.len(), at, n) {
-        return Appended::Refused(refusals::OUTPUT_TOO_SMALL);
+        return Err(Refusal::OutputTooSmall);
     }
     let second = put_named(out, at, b"accepted ", totals.accepted, SPACE);
     let third = put_named(out, second, b"delivered ", totals.delivered, SPACE);
     let fourth = put_named(out, third, b"dropped ", totals.dropped, SPACE);
-    Appended::Next(put_named(out, fourth, b"held ", totals.held, LINE_FEED))
+    Ok(put_named(out, fourth, b"held ", totals.held, LINE_FEED))
 }
