@@ -7,7 +7,7 @@ use Rattle.slots.specs.declared.Table.{Table}
 use Rattle.slots.specs.Slots.{slot_count, slot_octets, free, is_busy, index_of, lowest_free}
 use Rattle.reassembly.specs.declared.Arrival.{Arrival}
 use Rattle.reassembly.specs.declared.Change.{Change}
-use Rattle.reassembly.specs.declared.FragmentAnswer.TheVariants.{Held, Whole}
+use Rattle.reassembly.specs.declared.Accepted.TheVariants.{Held, Whole}
 use Rattle.reassembly.specs.Checks.{store_octets, output_octets}
 use Rattle.reassembly.specs.Engine.{put_at, part_at, slot_for, change_taken, fragment_taken}
 
@@ -20,7 +20,7 @@ pub record DeliverAsks (index before : ℕ) (payload store output : List ℕ) : 
   pub room : output_octets ≤ length output
 
 pub record DeliverGives (index before dropped : ℕ) (payload store output : List ℕ) (r : Change) (output' : List ℕ) : Type 0 where
-  pub change_is : r ≡ record { answer = Whole (before + length payload) dropped; slot = free; index = index }
+  pub change_is : r ≡ record { accepted = Whole (before + length payload) dropped; slot = free; index = index }
   pub output_is : output' ≡ put_at output 0 (take before (drop (part_at index) store) ++ payload)
 
 -- ---- any other
@@ -31,7 +31,7 @@ pub record KeepAsks (index before : ℕ) (payload store : List ℕ) : Type 0 whe
   pub fits : before + length payload ≤ slot_octets
 
 pub record KeepGives (index : ℕ) (slot : Slot) (before dropped : ℕ) (payload store : List ℕ) (r : Change) (store' : List ℕ) : Type 0 where
-  pub change_is : r ≡ record { answer = Held (before + length payload) dropped; slot = slot; index = index }
+  pub change_is : r ≡ record { accepted = Held (before + length payload) dropped; slot = slot; index = index }
   pub store_is : store' ≡ put_at store (part_at index + before) payload
 
 -- ---- both

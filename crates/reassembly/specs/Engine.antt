@@ -1,15 +1,16 @@
 -- What a fragment call answers and leaves (01, "Joining", second paragraph): the answer, the table, and every octet of store and output.
 -- Assumes nothing.
-use Rattle.std.specs.Prelude.{ℕ, ◌+◌, ◌*◌, ◌≡◌, Bool, not, List, ◌++◌, length, get_or, take, drop, set, eqb}
+use Rattle.std.specs.Prelude.{ℕ, ◌+◌, ◌*◌, ◌≡◌, Bool, not, List, ◌++◌, length, get_or, take, drop, set, eqb, Result, Ok, Err}
 use Rattle.std.proofs.Math.Seq.{paste}
 use Rattle.refusals.specs.Check.{pick, first_of, Answer, refused, accepted}
+use Rattle.refusals.specs.declared.Refusal.{Refusal}
+use Rattle.refusals.specs.Refusal.{number_of, answer_of}
 use Rattle.slots.specs.declared.Slot.{Slot}
 use Rattle.slots.specs.declared.Table.{Table}
 use Rattle.slots.specs.Slots.{slot_count, slot_octets, free, is_busy, index_of, is_full, lowest_free, table_of, is_sound}
 use Rattle.reassembly.specs.declared.Facts.{Facts}
-use Rattle.reassembly.specs.declared.FragmentAnswer.{FragmentAnswer}
-use Rattle.reassembly.specs.declared.FragmentAnswer.TheVariants.{Held, Whole, Refused}
-use Rattle.reassembly.specs.declared.FragmentResult.{FragmentResult}
+use Rattle.reassembly.specs.declared.Accepted.{Accepted}
+use Rattle.reassembly.specs.declared.Accepted.TheVariants.{Held, Whole}
 use Rattle.reassembly.specs.declared.Change.{Change}
 use Rattle.reassembly.specs.Checks.{fragment_in, payload_of, fragment_checks}
 
@@ -44,11 +45,14 @@ facts_in lid number table = facts_from (slot_for lid number table) table
 abbrev pub part_at : ℕ → ℕ
 part_at index = slot_octets * index
 
--- 01's number and values for each case of the answer
-abbrev pub fragment_answer : FragmentAnswer → Answer Taken
-fragment_answer (Held octets dropped) = accepted (held octets dropped)
-fragment_answer (Whole octets dropped) = accepted (whole octets dropped)
-fragment_answer (Refused number) = refused number
+-- 01's values for each case of an accepted fragment, and its number for a refusal
+abbrev pub taken_of : Accepted → Taken
+taken_of (Held octets dropped) = held octets dropped
+taken_of (Whole octets dropped) = whole octets dropped
+
+abbrev pub fragment_answer : Result Accepted Refusal → Answer Taken
+fragment_answer (Ok taken) = accepted (taken_of taken)
+fragment_answer (Err refusal) = refused (number_of refusal)
 
 -- What a fragment that no check refuses is answered, and the one slot that it changes. One that begins (counter 0) drops the octets that its pair held.
 -- With the last mark the message is whole, and the pair's slot is freed: a pair that has none has an index past the eight.
@@ -60,9 +64,9 @@ change_taken last begins lid number tick octets table =
     let message = pick begins 0 slot.held + octets in
     let dropped = pick begins slot.held 0 in
     pick last
-    (record { answer = Whole message dropped; slot = free; index = index })
+    (record { accepted = Whole message dropped; slot = free; index = index })
     (record {
-      answer = Held message dropped;
+      accepted = Held message dropped;
       slot = record { lid = lid; number = number; next = pick begins 1 (slot.next + 1); held = message; tick = pick begins tick slot.tick };
       index = pick (is_busy slot) index (lowest_free table);
     })
@@ -74,7 +78,7 @@ fragment_taken last begins lid number tick payload table store output =
     let change = change_taken last begins lid number tick (length payload) table in
     let before = pick begins 0 (slot_for lid number table).held in
     record {
-      answer = fragment_answer change.answer;
+      answer = accepted (taken_of change.accepted);
       table = table_of (set table.slots change.index change.slot);
       store = pick last store (put_at store (part_at change.index + before) payload);
       output = pick last (put_at output 0 (take before (drop (part_at change.index) store) ++ payload)) output;
@@ -95,33 +99,28 @@ fragment_of lid tick lsdu table store output =
     (fragment_taken fragment.last (eqb fragment.counter 0) lid fragment.number tick (payload_of lsdu) table store output)
     (record { answer = refused number; table = table; store = store; output = output })
 
--- the call's answer and the slot that it changes; a refusal changes none: the slot that is told is free, and its index past the eight
-unfoldable pub change_of : (lid tick : ℕ) → (lsdu : List ℕ) → Table → (store output : ℕ) → Change
+-- the call's answer and the slot that it changes; a refusal changes none
+unfoldable pub change_of : (lid tick : ℕ) → (lsdu : List ℕ) → Table → (store output : ℕ) → Answer Change
 change_of lid tick lsdu table store output =
     let fragment = fragment_in lsdu in
     let number = fragment_refusal lid lsdu table store output in
     pick (eqb number 0)
-    (change_taken fragment.last (eqb fragment.counter 0) lid fragment.number tick (length (payload_of lsdu)) table)
-    (record { answer = Refused number; slot = free; index = slot_count })
+    (accepted (change_taken fragment.last (eqb fragment.counter 0) lid fragment.number tick (length (payload_of lsdu)) table))
+    (refused number)
 
--- the table that a change makes: its slot is set, unless the answer is a refusal
-unfoldable pub changed_for : FragmentAnswer → (before after : Table) → Table
-changed_for (Held octets dropped) before after = after
-changed_for (Whole octets dropped) before after = after
-changed_for (Refused number) before after = before
-
+-- the table that a change makes: its slot is set
 abbrev pub changed_by : Table → Change → Table
-changed_by table c = changed_for c.answer table (table_of (set table.slots c.index c.slot))
+changed_by table c = table_of (set table.slots c.index c.slot)
 
--- the contract of `fragment_change`: the change r, and store and output afterwards
-pub record ChangeGives (lid tick : ℕ) (lsdu : List ℕ) (table : Table) (store output : List ℕ) (r : Change) (store' output' : List ℕ) : Type 0 where
-  pub change_is : r ≡ change_of lid tick lsdu table (length store) (length output)
+-- the contract of `fragment_change`: the change or the refusal r, and store and output afterwards
+pub record ChangeGives (lid tick : ℕ) (lsdu : List ℕ) (table : Table) (store output : List ℕ) (r : Result Change Refusal) (store' output' : List ℕ) : Type 0 where
+  pub change_is : answer_of r ≡ change_of lid tick lsdu table (length store) (length output)
   pub store_is : store' ≡ (fragment_of lid tick lsdu table store output).store
   pub output_is : output' ≡ (fragment_of lid tick lsdu table store output).output
 
--- the contract of `fragment`: the result r, and store and output afterwards
-pub record FragmentGives (lid tick : ℕ) (lsdu : List ℕ) (table : Table) (store output : List ℕ) (r : FragmentResult) (store' output' : List ℕ) : Type 0 where
-  pub answer_is : fragment_answer r.answer ≡ (fragment_of lid tick lsdu table store output).answer
-  pub table_is : r.table ≡ (fragment_of lid tick lsdu table store output).table
+-- the contract of `fragment`: the answer r, and table, store and output afterwards
+pub record FragmentGives (lid tick : ℕ) (lsdu : List ℕ) (table : Table) (store output : List ℕ) (r : Result Accepted Refusal) (table' : Table) (store' output' : List ℕ) : Type 0 where
+  pub answer_is : fragment_answer r ≡ (fragment_of lid tick lsdu table store output).answer
+  pub table_is : table' ≡ (fragment_of lid tick lsdu table store output).table
   pub store_is : store' ≡ (fragment_of lid tick lsdu table store output).store
   pub output_is : output' ≡ (fragment_of lid tick lsdu table store output).output

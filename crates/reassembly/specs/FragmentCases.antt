@@ -2,14 +2,16 @@
 -- and rows 1 to 12 of the refusal table): small tables and LSDUs; which check refuses, which slot changes and how, what store and
 -- output are afterwards, what the answers mean, what a slot holds, and two ends that demand 3 rules out.
 -- Assumes nothing.
-use Rattle.std.specs.Prelude.{ℕ, ◌^◌, ◌≡◌, Bool, true, false, List, [], ◌∷◌, map, replicate}
+use Rattle.std.specs.Prelude.{ℕ, ◌^◌, ◌≡◌, Bool, true, false, List, [], ◌∷◌, map, replicate, Result, Ok, Err}
 use Rattle.refusals.specs.Check.{first_of, Answer, refused, accepted}
+use Rattle.refusals.specs.declared.Refusal.{Refusal}
+use Rattle.refusals.specs.declared.Refusal.TheVariants.{StoreOrOutputLength, TableNotSound, NotOpen, RecordOutOfRange}
 use Rattle.slots.specs.declared.Slot.{Slot}
 use Rattle.slots.specs.declared.Table.{Table}
 use Rattle.slots.specs.Slots.{empty_table}
 use Rattle.slots.specs.SlotCases.{place, zeros, made, eight, three, wrong}
-use Rattle.reassembly.specs.declared.FragmentAnswer.{FragmentAnswer}
-use Rattle.reassembly.specs.declared.FragmentAnswer.TheVariants.{Held, Whole, Refused}
+use Rattle.reassembly.specs.declared.Accepted.{Accepted}
+use Rattle.reassembly.specs.declared.Accepted.TheVariants.{Held, Whole}
 use Rattle.reassembly.specs.declared.Change.{Change}
 use Rattle.reassembly.specs.Checks.{pair_checks}
 use Rattle.reassembly.specs.Engine.{Taken, held, whole, Outcome, fragment_answer, part_at, fragment_taken, fragment_refusal, fragment_of, change_of, changed_by, ChangeGives, FragmentGives}
@@ -21,7 +23,7 @@ use Rattle.reassembly.specs.Demand3.{Demand3}
 -- ---- which check refuses
 
 -- a call with a store and an output of so many octets, and the number of its refusal, or 0
-pub record Refusal : Type 0 where
+pub record RefusedCall : Type 0 where
   pub lid : ℕ
   pub lsdu : List ℕ
   pub table : Table
@@ -29,13 +31,13 @@ pub record Refusal : Type 0 where
   pub output : ℕ
   pub number : ℕ
 
-abbrev pub lengths : (store output number : ℕ) → Refusal
+abbrev pub lengths : (store output number : ℕ) → RefusedCall
 lengths store output number = record { lid = 1; lsdu = 0x11 ∷ 0xAA ∷ []; table = three; store = store; output = output; number = number }
 
-abbrev pub refusal : (lid : ℕ) → (lsdu : List ℕ) → Table → (number : ℕ) → Refusal
+abbrev pub refusal : (lid : ℕ) → (lsdu : List ℕ) → Table → (number : ℕ) → RefusedCall
 refusal lid lsdu table number = record { lid = lid; lsdu = lsdu; table = table; store = 4096; output = 512; number = number }
 
-abbrev pub refusals : List Refusal
+abbrev pub refusals : List RefusedCall
 refusals =
     -- 1 and 2; of two the first decides, and so on
     lengths 4096 512 0
@@ -80,11 +82,11 @@ highest last counter expected =
 
 -- ---- which slot changes
 
-abbrev pub change : FragmentAnswer → Slot → ℕ → Change
-change answer slot index = record { answer = answer; slot = slot; index = index }
+abbrev pub change : Accepted → Slot → ℕ → Change
+change taken slot index = record { accepted = taken; slot = slot; index = index }
 
 -- at tick 20
-abbrev pub changes : List Change
+abbrev pub changes : List (Answer Change)
 changes =
     -- opened in the lowest free slot, continued in its own, opened anew there
     change_of 1 20 (0x21 ∷ 0xAA ∷ 0xBB ∷ []) three 4096 512
@@ -119,8 +121,8 @@ leaves answer table store output = record { answer = answer; table = table; stor
 -- ---- answers and reports
 
 -- an answer's own octets, and a refusal's own number, whichever it is
-abbrev pub answers : List FragmentAnswer
-answers = Held 5 3 ∷ Whole 5 3 ∷ Refused 8 ∷ Refused 23 ∷ []
+abbrev pub answers : List (Result Accepted Refusal)
+answers = Ok (Held 5 3) ∷ Ok (Whole 5 3) ∷ Err NotOpen ∷ Err RecordOutOfRange ∷ []
 
 -- what an answer reports, with AA BB 7 7 as output
 abbrev pub reports : Answer Taken → Report
@@ -128,11 +130,11 @@ reports answer = fragment_report answer store
 
 -- ---- the contracts: what they say of a call that is refused with 1, since its store is short
 
-abbrev pub Result : FragmentAnswer → Table → (store' output' : List ℕ) → Type 0
-Result answer table = FragmentGives 1 20 (0x13 ∷ 0xCC ∷ []) one store output (record { answer = answer; table = table })
+abbrev pub CallGives : Result Accepted Refusal → Table → (store' output' : List ℕ) → Type 0
+CallGives answer table = FragmentGives 1 20 (0x13 ∷ 0xCC ∷ []) one store output answer table
 
-abbrev pub ChangeResult : (index : ℕ) → (store' output' : List ℕ) → Type 0
-ChangeResult index = ChangeGives 1 20 (0x13 ∷ 0xCC ∷ []) one store output (change (Refused 1) zeros index)
+abbrev pub ChangeCallGives : Result Change Refusal → (store' output' : List ℕ) → Type 0
+ChangeCallGives answer = ChangeGives 1 20 (0x13 ∷ 0xCC ∷ []) one store output answer
 
 -- ---- what a slot holds
 
@@ -148,16 +150,16 @@ unclean = record { table = made 0 (zeros ∷ zeros ∷ zeros ∷ zeros ∷ zeros
 
 pub record FragmentCasesHold : Type 0 where
   pub refusing_first :
-      map (λ (c : Refusal). fragment_refusal c.lid c.lsdu c.table c.store c.output) refusals
-      ≡ map (λ (c : Refusal). c.number) refusals
+      map (λ (c : RefusedCall). fragment_refusal c.lid c.lsdu c.table c.store c.output) refusals
+      ≡ map (λ (c : RefusedCall). c.number) refusals
   pub highest_counter :
       highest false 65535 65535 ∷ highest true 65535 65535 ∷ highest false 65534 65534 ∷ highest false 65535 3 ∷ []
       ≡ 11 ∷ 0 ∷ 0 ∷ 10 ∷ []
   pub changing :
       changes
-      ≡ change (Held 2 0) (place 1 4 1 2 20) 1 ∷ change (Held 4 0) (place 1 2 2 4 10) 0 ∷ change (Held 1 5) (place 1 3 1 1 20) 2
-      ∷ change (Whole 8 0) zeros 3 ∷ change (Whole 2 5) zeros 2 ∷ change (Whole 1 0) zeros 8
-      ∷ change (Refused 4) zeros 8 ∷ []
+      ≡ accepted (change (Held 2 0) (place 1 4 1 2 20) 1) ∷ accepted (change (Held 4 0) (place 1 2 2 4 10) 0)
+      ∷ accepted (change (Held 1 5) (place 1 3 1 1 20) 2) ∷ accepted (change (Whole 8 0) zeros 3)
+      ∷ accepted (change (Whole 2 5) zeros 2) ∷ accepted (change (Whole 1 0) zeros 8) ∷ refused 4 ∷ []
   -- the part of slot i starts at octet 512 i
   pub parts : map part_at (0 ∷ 1 ∷ 7 ∷ []) ≡ 0 ∷ 512 ∷ 3584 ∷ []
   -- continued and begun anew, not the last and the last
@@ -176,18 +178,19 @@ pub record FragmentCasesHold : Type 0 where
   pub sweeps_reporting : map sweep_report (accepted 6 ∷ refused 2 ∷ refused 3 ∷ []) ≡ dropping 6 ∷ refusing 2 ∷ refusing 3 ∷ []
   -- the table that a change makes
   pub changed :
-      map (changed_by one) (change (Held 4 0) (place 1 3 1 4 20) 1 ∷ change (Whole 3 0) zeros 0 ∷ change (Refused 4) zeros 0 ∷ [])
+      map (changed_by one) (change (Held 4 0) (place 1 3 1 4 20) 1 ∷ change (Whole 3 0) zeros 0 ∷ change (Whole 1 0) zeros 8 ∷ [])
       ≡ made 3 (place 1 2 1 2 10 ∷ place 1 3 1 4 20 ∷ []) ∷ empty_table ∷ one ∷ []
   -- the contracts, of that refusal: answer, table, store and output are these, and no others
-  pub result : Result (Refused 1) one store output
-  pub not_answer : Result (Refused 2) one store output → ⊥
-  pub not_table : Result (Refused 1) empty_table store output → ⊥
-  pub not_store : Result (Refused 1) one output output → ⊥
-  pub not_output : Result (Refused 1) one store store → ⊥
-  pub change_result : ChangeResult 8 store output
-  pub not_change : ChangeResult 0 store output → ⊥
-  pub not_change_store : ChangeResult 8 output output → ⊥
-  pub not_change_output : ChangeResult 8 store store → ⊥
+  pub result : CallGives (Err StoreOrOutputLength) one store output
+  pub not_answer : CallGives (Err TableNotSound) one store output → ⊥
+  pub not_table : CallGives (Err StoreOrOutputLength) empty_table store output → ⊥
+  pub not_store : CallGives (Err StoreOrOutputLength) one output output → ⊥
+  pub not_output : CallGives (Err StoreOrOutputLength) one store store → ⊥
+  pub change_result : ChangeCallGives (Err StoreOrOutputLength) store output
+  pub not_change : ChangeCallGives (Err TableNotSound) store output → ⊥
+  pub not_changed : ChangeCallGives (Ok (change (Held 3 0) (place 1 2 2 3 10) 0)) store output → ⊥
+  pub not_change_store : ChangeCallGives (Err StoreOrOutputLength) output output → ⊥
+  pub not_change_output : ChangeCallGives (Err StoreOrOutputLength) store store → ⊥
   -- AA and BB in slot 0, opened at tick 10; not if the bit is clear, not with another tick, not AA and BC; and there is no slot 8
   pub holds : HoldsAt (kept 1) 0 1 2 10 ((0xAA ∷ []) ∷ (0xBB ∷ []) ∷ [])
   pub not_busy : HoldsAt (kept 2) 0 1 2 10 ((0xAA ∷ []) ∷ (0xBB ∷ []) ∷ []) → ⊥

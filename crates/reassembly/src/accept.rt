@@ -1,11 +1,9 @@
 // A fragment that no check refused: delivered if it is the last, kept otherwise.
 ghost use Rattle.std.specs.Prelude.{◌≡◌};
-ghost use Rattle.refusals.specs.Check.{pick};
 ghost use Rattle.reassembly.specs.Accept.{DeliverAsks, DeliverGives, KeepAsks, KeepGives, AcceptAsks, AcceptGives};
 
-use crate::checks::choose;
 use crate::copy::{copy, copy_held};
-use crate::{Arrival, Change, FragmentAnswer};
+use crate::{Accepted, Arrival, Change};
 use slots::Slot;
 
 // A last fragment: the octets held and its payload go to the output, and the slot is freed.
@@ -25,8 +23,8 @@ fn deliver(
     copy(payload, output, before);
     let octets = before + payload.len();
     Change {
-        answer: FragmentAnswer::Whole { octets, dropped },
-        slot: slots::free_slot(),
+        accepted: Accepted::Whole { octets, dropped },
+        slot: Slot::default(),
         index,
     }
 }
@@ -47,16 +45,10 @@ fn keep(
     copy(payload, store, at);
     let octets = before + payload.len();
     Change {
-        answer: FragmentAnswer::Held { octets, dropped },
+        accepted: Accepted::Held { octets, dropped },
         slot,
         index,
     }
-}
-
-fn choose32(b: bool, x: u32, y: u32) -> u32
-    ensures { result ≡ pick b x y }
-{
-    if b { x } else { y }
 }
 
 // The answer to a fragment that no check refused, and the slot that it changes: its pair's, or the lowest free one to open a message.
@@ -72,24 +64,27 @@ pub(crate) fn accept(
     ensures { AcceptGives arrival slot lowest payload.now store.old output.old result store.new output.new }
 {
     let index = arrival.index;
-    let begins = arrival.begins;
-    let held = slot.held as usize;
-    let before = choose(begins, 0, held);
-    let dropped = choose(begins, held, 0);
+    let (before, dropped) = if arrival.begins {
+        (0, slot.held as usize)
+    } else {
+        (slot.held as usize, 0)
+    };
     if arrival.last {
         return deliver(index, before, dropped, payload, store, output);
     }
-    let next = slot.next;
-    let taken = choose(next != 0, index, lowest);
     let octets = before + payload.len();
-    let count = choose32(begins, 1, next + 1);
-    let tick = choose32(begins, arrival.tick, slot.tick);
+    let (next, tick) = if arrival.begins {
+        (1, arrival.tick)
+    } else {
+        (slot.next + 1, slot.tick)
+    };
     let changed = Slot {
         lid: arrival.lid,
         number: arrival.number as u32,
-        next: count,
+        next,
         held: octets as u32,
         tick,
     };
+    let taken = if slot.next != 0 { index } else { lowest };
     keep(taken, changed, before, dropped, payload, store)
 }

@@ -1,137 +1,119 @@
 // The checks of a fragment call, in the order of 01's table: 1 to 4, then 5 to 12.
 ghost use Rattle.std.specs.Prelude.{◌≡◌, ◌+◌, ◌&&◌, not, ◌++◌, eqb, ltb};
 ghost use Rattle.refusals.specs.Check.{pick, first_of};
+ghost use Rattle.refusals.specs.Refusal.{refused_by};
 ghost use Rattle.slots.specs.Slots.{slot_octets};
 ghost use Rattle.reassembly.specs.Checks.{last_counter, lsdu_checks, header_checks, pair_checks};
 
 use crate::{Facts, FragmentFields};
+use refusals::Refusal;
 
-// The refusal 1 to 4 that applies first, or 0.
-pub(crate) fn lsdu_refusal(store: usize, output: usize, sound: bool, lid: u32, lsdu: usize) -> u8
-    ensures { result ≡ first_of (lsdu_checks store output (not sound) lid lsdu) }
+// The refusal 1 to 4 that applies first.
+pub(crate) fn check_lsdu(
+    store: usize,
+    output: usize,
+    sound: bool,
+    lid: u32,
+    lsdu: usize,
+) -> Result<(), Refusal>
+    ensures { refused_by result ≡ first_of (lsdu_checks store output (not sound) lid lsdu) }
 {
-    if store != crate::STORE_OCTETS {
-        return refusals::STORE_OR_OUTPUT_LENGTH;
-    }
-    if output < crate::OUTPUT_OCTETS {
-        return refusals::STORE_OR_OUTPUT_LENGTH;
+    if store != crate::STORE_OCTETS || output < crate::OUTPUT_OCTETS {
+        return Err(Refusal::StoreOrOutputLength);
     }
     if !sound {
-        return refusals::TABLE_NOT_SOUND;
+        return Err(Refusal::TableNotSound);
     }
     if !slots::lid_in_range(lid) {
-        return refusals::LID_OUT_OF_RANGE;
+        return Err(Refusal::LidOutOfRange);
     }
-    if lsdu == 0 {
-        return refusals::LSDU_LENGTH;
+    if lsdu == 0 || crate::LSDU_OCTETS < lsdu {
+        return Err(Refusal::LsduLength);
     }
-    if crate::LSDU_OCTETS < lsdu {
-        return refusals::LSDU_LENGTH;
-    }
-    0
-}
-
-fn both(a: bool, b: bool) -> bool
-    ensures { result ≡ (a && b) }
-{
-    if a {
-        return b;
-    }
-    false
-}
-
-pub(crate) fn choose(b: bool, x: usize, y: usize) -> usize
-    ensures { result ≡ pick b x y }
-{
-    if b { x } else { y }
+    Ok(())
 }
 
 // Whether the sum is more than a slot holds, whatever the numbers.
 fn exceeds(held: usize, payload: usize) -> bool
     ensures { result ≡ ltb slot_octets (held + payload) }
 {
-    if slots::SLOT_OCTETS < held {
-        return true;
-    }
-    slots::SLOT_OCTETS - held < payload
+    slots::SLOT_OCTETS < held || slots::SLOT_OCTETS - held < payload
 }
 
 // 8: a counter above 0, and the pair is not open.
 fn is_not_open(fragment: FragmentFields, facts: Facts) -> bool
     ensures { result ≡ (ltb 0 fragment.counter && not facts.is_open) }
 {
-    both(0 < fragment.counter, !facts.is_open)
+    0 < fragment.counter && !facts.is_open
 }
 
 // 9: counter 0, not last, the pair is not open, and no slot is free.
 fn is_out_of_slots(fragment: FragmentFields, facts: Facts) -> bool
     ensures { result ≡ (eqb fragment.counter 0 && not fragment.last && not facts.is_open && facts.full) }
 {
-    let opens = both(fragment.counter == 0, !fragment.last);
-    both(both(opens, !facts.is_open), facts.full)
+    fragment.counter == 0 && !fragment.last && !facts.is_open && facts.full
 }
 
 // 10: the pair is open, and the counter is above 0 and not the expected one.
 fn is_unexpected(fragment: FragmentFields, facts: Facts) -> bool
     ensures { result ≡ (facts.is_open && ltb 0 fragment.counter && not (eqb fragment.counter facts.expected)) }
 {
-    let continues = both(facts.is_open, 0 < fragment.counter);
-    both(continues, fragment.counter != facts.expected)
+    facts.is_open && 0 < fragment.counter && fragment.counter != facts.expected
 }
 
 // 11: the highest counter as expected, and not last.
 fn is_exhausted(fragment: FragmentFields, facts: Facts) -> bool
     ensures { result ≡ (eqb fragment.counter last_counter && eqb fragment.counter facts.expected && not fragment.last) }
 {
-    let highest = both(
-        fragment.counter == crate::LAST_COUNTER,
-        fragment.counter == facts.expected,
-    );
-    both(highest, !fragment.last)
+    fragment.counter == crate::LAST_COUNTER && fragment.counter == facts.expected && !fragment.last
 }
 
 // 12: the octets held, none for counter 0, and the payload are more than a slot holds.
 fn is_too_long(fragment: FragmentFields, facts: Facts) -> bool
     ensures { result ≡ ltb slot_octets (pick (eqb fragment.counter 0) 0 facts.held + fragment.octets) }
 {
-    let held = choose(fragment.counter == 0, 0, facts.held);
+    let held = if fragment.counter == 0 {
+        0
+    } else {
+        facts.held
+    };
     exceeds(held, fragment.octets)
 }
 
-// The refusal 8 to 12 that applies first, or 0.
-fn pair_refusal(fragment: FragmentFields, facts: Facts) -> u8
-    ensures { result ≡ first_of (pair_checks fragment facts) }
+// The refusal 8 to 12 that applies first.
+fn check_pair(fragment: FragmentFields, facts: Facts) -> Result<(), Refusal>
+    ensures { refused_by result ≡ first_of (pair_checks fragment facts) }
 {
     if is_not_open(fragment, facts) {
-        return refusals::NOT_OPEN;
+        return Err(Refusal::NotOpen);
     }
     if is_out_of_slots(fragment, facts) {
-        return refusals::NO_FREE_SLOT;
+        return Err(Refusal::NoFreeSlot);
     }
     if is_unexpected(fragment, facts) {
-        return refusals::COUNTER_NOT_EXPECTED;
+        return Err(Refusal::CounterNotExpected);
     }
     if is_exhausted(fragment, facts) {
-        return refusals::COUNTER_EXHAUSTED;
+        return Err(Refusal::CounterExhausted);
     }
     if is_too_long(fragment, facts) {
-        return refusals::MESSAGE_TOO_LONG;
+        return Err(Refusal::MessageTooLong);
     }
-    0
+    Ok(())
 }
 
-// The refusal 5 to 12 that applies first, or 0.
-pub(crate) fn fragment_refusal(fragment: FragmentFields, facts: Facts) -> u8
-    ensures { result ≡ first_of (header_checks fragment ++ pair_checks fragment facts) }
+// The refusal 5 to 12 that applies first.
+pub(crate) fn check_fragment(fragment: FragmentFields, facts: Facts) -> Result<(), Refusal>
+    ensures { refused_by result ≡ first_of (header_checks fragment ++ pair_checks fragment facts) }
 {
     if !fragment.valid {
-        return refusals::HEADER_NOT_VALID;
+        return Err(Refusal::HeaderNotValid);
     }
     if fragment.number < slots::LOWEST_NUMBER {
-        return refusals::NUMBER_RESERVED;
+        return Err(Refusal::NumberReserved);
     }
     if fragment.octets == 0 {
-        return refusals::NO_PAYLOAD;
+        return Err(Refusal::NoPayload);
     }
-    pair_refusal(fragment, facts)
+    check_pair(fragment, facts)
 }

@@ -1,5 +1,5 @@
 // Reassembly of fragments into messages (01 calls it joining, a slot a place, and the PDU number a message number). The table of
-// slots goes by value, with a lent store of 4,096 octets, 512 for each slot in order.
+// slots is lent, with a store of 4,096 octets, 512 for each slot in order.
 
 #![tactic(auto)]
 
@@ -8,7 +8,7 @@ mod checks;
 mod copy;
 mod fragment_call;
 
-use slots::{Slot, Table};
+use slots::Slot;
 
 // The limits of a call; those of the slots are in the crate `slots`.
 pub const STORE_OCTETS: usize = 4096;
@@ -19,19 +19,12 @@ pub const LSDU_OCTETS: usize = 128;
 
 pub const LAST_COUNTER: u32 = 65535;
 
-// What a fragment call answers: the octets now held of the message, or those delivered, with the octets dropped of an older
-// message of the pair; or a refusal.
-#[derive(Clone, Copy)]
-pub enum FragmentAnswer {
+// What a fragment that is not refused is answered: the octets now held of the message, or those delivered, with the octets dropped of
+// an older message of the pair.
+#[derive(Clone, Copy, Debug, PartialEq, Eq)]
+pub enum Accepted {
     Held { octets: usize, dropped: usize },
     Whole { octets: usize, dropped: usize },
-    Refused(u8),
-}
-
-#[derive(Clone, Copy)]
-pub struct FragmentResult {
-    pub answer: FragmentAnswer,
-    pub table: Table,
 }
 
 // What the checks ask of a fragment: whether its header is valid, its fields, and the octets of its payload.
@@ -64,10 +57,10 @@ pub(crate) struct Arrival {
     pub begins: bool,
 }
 
-// What a fragment is answered, and the one slot that it changes unless it is refused: what it is then, and its index, which may be past the eight.
-#[derive(Clone, Copy)]
+// What a fragment is answered, and the one slot that it changes: what it is then, and its index, which may be past the eight.
+#[derive(Clone, Copy, Debug, PartialEq, Eq)]
 pub struct Change {
-    pub answer: FragmentAnswer,
+    pub accepted: Accepted,
     pub slot: Slot,
     pub index: usize,
 }

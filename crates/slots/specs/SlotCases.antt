@@ -1,12 +1,12 @@
 -- Computed cases of Slots.antt and Sweep.antt (01, "Joining", first and third paragraph): small tables; whether they are sound,
 -- what the counts over the word give, where a pair's slot is and what it holds, and what expiry and release answer and leave.
 -- Assumes nothing.
-use Rattle.std.specs.Prelude.{◌≡◌, ℕ, ◌-◌, ◌^◌, Bool, true, false, List, [], ◌∷◌, ◌++◌, map, take, replicate}
+use Rattle.std.specs.Prelude.{◌≡◌, ℕ, ◌-◌, ◌^◌, Bool, true, false, List, [], ◌∷◌, ◌++◌, map, take, replicate, Result, Ok, Err}
 use Rattle.refusals.specs.Check.{refused, accepted}
+use Rattle.refusals.specs.declared.Refusal.{Refusal}
+use Rattle.refusals.specs.declared.Refusal.TheVariants.{TableNotSound, LidOutOfRange, NoPayload}
 use Rattle.slots.specs.declared.Slot.{Slot}
 use Rattle.slots.specs.declared.Table.{Table}
-use Rattle.slots.specs.declared.SweepAnswer.{SweepAnswer}
-use Rattle.slots.specs.declared.SweepAnswer.TheVariants.{Dropped, Refused}
 use Rattle.slots.specs.Slots.{empty_table, bit_at, is_sound, busy_count, is_full, lowest_free, index_of, table_of, held_for, held_in}
 use Rattle.slots.specs.Sweep.{Swept, expiry_of, release_of, sweep_answer, ExpiryGives, ReleaseGives}
 
@@ -131,8 +131,8 @@ sweeps =
     ∷ []
 
 -- an answer's own octets, and a refusal's own number, whichever it is
-abbrev pub answers : List SweepAnswer
-answers = Dropped 6 ∷ Refused 2 ∷ Refused 3 ∷ Refused 7 ∷ []
+abbrev pub answers : List (Result ℕ Refusal)
+answers = Ok 6 ∷ Err TableNotSound ∷ Err LidOutOfRange ∷ Err NoPayload ∷ []
 
 -- ---- what is proved
 
@@ -157,9 +157,9 @@ pub record SlotCasesHold : Type 0 where
       ∷ dropping 8 last ∷ dropping 0 three ∷ refusing 3 three ∷ refusing 2 wrong ∷ []
   pub answering : map sweep_answer answers ≡ accepted 6 ∷ refused 2 ∷ refused 3 ∷ refused 7 ∷ []
   -- answer and table are those of the call, and no others
-  pub expiry : ExpiryGives 15 4 three (record { answer = Dropped 8; table = last })
-  pub not_expiry_of_9 : ExpiryGives 15 4 three (record { answer = Dropped 9; table = last }) → ⊥
-  pub not_expiry_kept : ExpiryGives 15 4 three (record { answer = Dropped 8; table = three }) → ⊥
-  pub release : ReleaseGives 1 three (record { answer = Dropped 8; table = last })
-  pub not_release_of_9 : ReleaseGives 1 three (record { answer = Dropped 9; table = last }) → ⊥
-  pub not_release_kept : ReleaseGives 1 three (record { answer = Dropped 8; table = three }) → ⊥
+  pub expiry : ExpiryGives 15 4 three (Ok 8) last
+  pub not_expiry_of_9 : ExpiryGives 15 4 three (Ok 9) last → ⊥
+  pub not_expiry_kept : ExpiryGives 15 4 three (Ok 8) three → ⊥
+  pub release : ReleaseGives 1 three (Ok 8) last
+  pub not_release_of_9 : ReleaseGives 1 three (Ok 9) last → ⊥
+  pub not_release_kept : ReleaseGives 1 three (Ok 8) three → ⊥

@@ -1,13 +1,12 @@
 -- Expiry and release (01, "Joining", third paragraph): each frees the slots that a test picks, answers how many octets it dropped, and
 -- leaves the store unchanged. Expiry checks 2; release checks 2, then 3.
 -- Assumes nothing.
-use Rattle.std.specs.Prelude.{◌≡◌, ℕ, ◌+◌, ◌-◌, ◌%◌, ◌^◌, Bool, not, ◌&&◌, List, [], ◌∷◌, ◌==◌, nat_le}
+use Rattle.std.specs.Prelude.{◌≡◌, ℕ, ◌+◌, ◌-◌, ◌%◌, ◌^◌, Bool, not, ◌&&◌, List, [], ◌∷◌, ◌==◌, nat_le, Result, Ok, Err}
 use Rattle.refusals.specs.Check.{pick, Check, check, first_of, Answer, refused, accepted}
+use Rattle.refusals.specs.declared.Refusal.{Refusal}
+use Rattle.refusals.specs.Refusal.{number_of}
 use Rattle.slots.specs.declared.Slot.{Slot}
 use Rattle.slots.specs.declared.Table.{Table}
-use Rattle.slots.specs.declared.SweepResult.{SweepResult}
-use Rattle.slots.specs.declared.SweepAnswer.{SweepAnswer}
-use Rattle.slots.specs.declared.SweepAnswer.TheVariants.{Dropped, Refused}
 use Rattle.slots.specs.Slots.{free, is_busy, lid_in_range, is_sound, table_of}
 
 -- the age: tick minus opening tick modulo 2^32
@@ -64,16 +63,16 @@ expiry_of tick limit table = swept_by (expiry_checks (not (is_sound table))) (ag
 unfoldable pub release_of : ℕ → Table → Swept
 release_of lid table = swept_by (release_checks (not (is_sound table)) lid) (of_lid lid) table
 
--- 01's number and value for each case of the answer
-abbrev pub sweep_answer : SweepAnswer → Answer ℕ
-sweep_answer (Dropped octets) = accepted octets
-sweep_answer (Refused number) = refused number
+-- 01's number or the octets for each case of the answer
+abbrev pub sweep_answer : Result ℕ Refusal → Answer ℕ
+sweep_answer (Ok octets) = accepted octets
+sweep_answer (Err refusal) = refused (number_of refusal)
 
--- the contracts
-pub record ExpiryGives (tick limit : ℕ) (table : Table) (r : SweepResult) : Type 0 where
-  pub answer_is : sweep_answer r.answer ≡ (expiry_of tick limit table).answer
-  pub table_is : r.table ≡ (expiry_of tick limit table).table
+-- the contracts: the table before, the answer, and the table after
+pub record ExpiryGives (tick limit : ℕ) (table : Table) (answer : Result ℕ Refusal) (table' : Table) : Type 0 where
+  pub answer_is : sweep_answer answer ≡ (expiry_of tick limit table).answer
+  pub table_is : table' ≡ (expiry_of tick limit table).table
 
-pub record ReleaseGives (lid : ℕ) (table : Table) (r : SweepResult) : Type 0 where
-  pub answer_is : sweep_answer r.answer ≡ (release_of lid table).answer
-  pub table_is : r.table ≡ (release_of lid table).table
+pub record ReleaseGives (lid : ℕ) (table : Table) (answer : Result ℕ Refusal) (table' : Table) : Type 0 where
+  pub answer_is : sweep_answer answer ≡ (release_of lid table).answer
+  pub table_is : table' ≡ (release_of lid table).table

@@ -1,4 +1,4 @@
-// The table of slots that reassembly keeps by value: soundness, the busy word, lookup, expiry and release. (01 calls reassembly
+// The table of slots that reassembly keeps: soundness, the busy word, lookup, expiry and release. (01 calls reassembly
 // joining, a slot a place, and the PDU number a message number.)
 
 #![tactic(auto)]
@@ -24,7 +24,7 @@ pub const HIGHEST_NUMBER: u8 = 15;
 
 // One place of 01's table. A free slot is all zero. Each field has 32 bits, in the order of the words that hold a table outside (the crate `words`), so that a
 // table goes in and out as one block.
-#[derive(Clone, Copy)]
+#[derive(Clone, Copy, Debug, Default, PartialEq, Eq)]
 pub struct Slot {
     pub lid: u32,
     pub number: u32,
@@ -35,45 +35,28 @@ pub struct Slot {
     pub tick: u32,
 }
 
-#[derive(Clone, Copy)]
+#[derive(Clone, Copy, Debug, PartialEq, Eq)]
 pub struct Table {
     // Bit i tells whether slot i is taken.
     pub busy: u32,
     pub slots: [Slot; 8],
 }
 
-// What expiry and release answer: the octets dropped, or a refusal.
-#[derive(Clone, Copy)]
-pub enum SweepAnswer {
-    Dropped(usize),
-    Refused(u8),
-}
-
-#[derive(Clone, Copy)]
-pub struct SweepResult {
-    pub answer: SweepAnswer,
-    pub table: Table,
-}
-
 // A slot that holds nothing: all zero.
 pub fn free_slot() -> Slot
     ensures { result ≡ free }
 {
-    Slot {
-        lid: 0,
-        number: 0,
-        next: 0,
-        held: 0,
-        tick: 0,
-    }
+    Slot::default()
 }
 
 // The table in which every slot is free.
 pub fn empty() -> Table
     ensures { result ≡ empty_table }
 {
-    let slots = [free_slot(); 8];
-    Table { busy: 0, slots }
+    Table {
+        busy: 0,
+        slots: [Slot::default(); 8],
+    }
 }
 
 pub use lookup::{find, held_for, held_in, slot_at, with_slot};
