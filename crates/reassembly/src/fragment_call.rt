@@ -17,14 +17,14 @@ fn fragment_in(lsdu: &[u8]) -> FragmentFields
     ensures { result ≡ fragment_in lsdu.now }
 {
     match header::read(lsdu) {
-        HeaderRead::Fields { header, size } => FragmentFields {
+        Ok(HeaderRead { header, size }) => FragmentFields {
             valid: true,
             last: header.last,
             number: header.number,
             counter: header.counter,
             octets: lsdu.len() - size,
         },
-        HeaderRead::Refused(_) => FragmentFields {
+        Err(_) => FragmentFields {
             valid: false,
             last: false,
             number: 0,
