@@ -7,7 +7,7 @@ use mathlib.Core.List.{List}
 use native.Mathlib.Omega.{arith}
 use lib.Dec.{eqb}
 use lib.ListN.{length, get_or}
-use borrow.Author.Tests.{eq-eqb, ne_eqb, lt-ltb, le-ltb}
+use borrow.Author.Tests.{ne_eqb, lt-ltb, le-ltb}
 use Rattle.refusals.specs.Check.{first_of, refused, accepted, decided}
 use Rattle.bits.specs.Bits.{field}
 use Rattle.bits.proofs.Laws.{field_in_octet}
@@ -35,18 +35,6 @@ module _ (s : List ℕ) where
   end_bit_is i {x} e h =
       let f = field_in_octet s i 7 1 0 refl (rw e at h) in
       omega arith
-
-  pub ends_first : {x : ℕ} → x ≡ end_bit s 0 → x ≡ 1 → 1 ≡ header_length s
-  unfolding header_length
-  ends_first e f = simp (eq-eqb _ _ (sym e ∙ f))
-
-  pub ends_second : {x y : ℕ} → x ≡ end_bit s 0 → (x ≡ 1 → ⊥) → y ≡ end_bit s 1 → y ≡ 1 → 2 ≡ header_length s
-  unfolding header_length
-  ends_second e f g h = simp (ne_eqb _ _ (λ i. f (e ∙ i)), eq-eqb _ _ (sym g ∙ h))
-
-  pub ends_third : {x y : ℕ} → x ≡ end_bit s 0 → (x ≡ 1 → ⊥) → y ≡ end_bit s 1 → (y ≡ 1 → ⊥) → 3 ≡ header_length s
-  unfolding header_length
-  ends_third e f g h = simp (ne_eqb _ _ (λ i. f (e ∙ i)), ne_eqb _ _ (λ i. h (g ∙ i)))
 
   module _ {x : ℕ} (e : x ≡ get_or s 0 0) (h : x < 256) where
     two_bits : x / 2 % 4 ≡ field s 5 2
@@ -113,4 +101,4 @@ module _ (s : List ℕ) where
         unfolding read_header read_refusal first_of decided
         whole {x} h e g =
             let w = headed e g in
-            simp (← is, le-ltb _ _ long, ← third, f, counter_is, ← l, le-ltb _ _ h, w)
+            simp (← is, le-ltb _ _ long, ← third, f, ← l, le-ltb _ _ h, w)

@@ -18,12 +18,6 @@ use Rattle.header.specs.Header.{bit_of, first_bits, next_bits, header_bits, head
 use Rattle.header.specs.declared.Header.{Header}
 use Rattle.header.proofs.Reading.{length_one, length_two, length_three}
 
-pub first_last : {l : Bool} (n c e : ℕ) {v : ℕ} → l ≡ true → v ≡ 128 + (n * 8 + c % 4 * 2 + e) → v ≡ bit_of l * 128 + n * 8 + c % 4 * 2 + e
-first_last n c e t f = rw (t, f) (omega arith)
-
-pub first_more : {l : Bool} (n c e : ℕ) {v : ℕ} → l ≡ false → v ≡ n * 8 + c % 4 * 2 + e → v ≡ bit_of l * 128 + n * 8 + c % 4 * 2 + e
-first_more n c e t f = rw (t, f) (omega arith)
-
 -- ---- the counters of a length
 
 module _ (c : ℕ) {m : ℕ} (is : m ≡ length_for c) where

@@ -9,5 +9,5 @@ returns-then-counter-lt4 c = length_one (omega arith)
 pub returns-then-counter-lt512 : goal.returns-then-counter-lt512
 returns-then-counter-lt512 c = length_two (omega arith) (omega arith)
 
-pub returns : goal.returns
-returns c = length_three (omega arith)
+pub returns-else-counter-lt512 : goal.returns-else-counter-lt512
+returns-else-counter-lt512 c = length_three (omega arith)
