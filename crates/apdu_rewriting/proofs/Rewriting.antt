@@ -6,6 +6,7 @@ use mathlib.Core.List.{List}
 use lib.ListN.{length}
 use lib.Dec.{ltb}
 use borrow.Author.Tests.{ltb-true, ltb-false}
+use Rattle.std.specs.Prelude.{Result}
 use Rattle.refusals.proofs.Tests.{by_cases}
 use Rattle.bits.specs.Bits.{Octets}
 use Rattle.apdu_format.specs.Reading.{message, read_message}
@@ -15,7 +16,7 @@ use Rattle.apdu.specs.Values.{values_of}
 use Rattle.apdu_reading.specs.declared.front.Answer.TheVariants as answer
 use Rattle.apdu_reading.specs.declared.front.Reading.{Reading}
 use Rattle.apdu_reading.specs.Answers.{told, outcome_of, Reads}
-use Rattle.apdu_writing.specs.declared.writing.ApduWritten.{ApduWritten}
+use Rattle.apdu_writing.specs.declared.writing.WriteRefusal.{WriteRefusal}
 use Rattle.apdu_writing.specs.Answer.{write_answer, write_output}
 use Rattle.apdu_writing.specs.Answer as writing
 use Rattle.apdu_rewriting.specs.declared.Rewritten.{Rewritten}
@@ -35,7 +36,7 @@ module _ (s out : List ℕ) (r : Reading) (e : Reads s r) where
       let u : read_message s ≡ unread k p = sym e.outcome ∙ rw h in
       (rw u, rw u)
 
-  pub writes_back : Octets s → (m : Message) → r.answer ≡ answer.Message m → (w : ApduWritten) {out' : List ℕ}
+  pub writes_back : Octets s → (m : Message) → r.answer ≡ answer.Message m → (w : Result ℕ WriteRefusal) {out' : List ℕ}
       → (writing.answer_of w ≡ write_answer s m r.lists.entries r.lists.rows (length out)) × (out' ≡ write_output s m r.lists.entries r.lists.rows out)
       → Rewrites s out (rewritten.Written w) out'
   unfolding answer_of rewrite_answer answer_to rewrite_output output_for outcome_of told

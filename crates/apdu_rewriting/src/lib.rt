@@ -8,14 +8,14 @@ ghost use Rattle.apdu_rewriting.specs.Rewriting.{answer_of, rewrite_answer, rewr
 ghost use Rattle.apdu_rewriting.specs.RoundTrip.{WritingRead, ReadingWritten, ReadingExact};
 
 use apdu_reading::{Answer, read};
-use apdu_writing::{ApduWritten, write};
+use apdu_writing::{WriteRefusal, write};
 
-#[derive(Clone, Copy)]
+#[derive(Clone, Copy, Debug, PartialEq, Eq)]
 pub enum Rewritten {
     // Reading's refusal: its number and position.
     Refused(u8, usize),
     // What writing answers; for a message that was read 22 is its only refusal.
-    Written(ApduWritten),
+    Written(Result<usize, WriteRefusal>),
 }
 
 // Reads the message that `s` is and writes it to the front of `out`: reading's refusal, else 22 where `out` is shorter than `s`, else the octets of `s`.

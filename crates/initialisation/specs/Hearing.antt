@@ -1,8 +1,10 @@
 -- The BST call (01, "The tag's link"), sentence by sentence: its checks; the stored time and tick and the waking; what the tag takes; silence, fresh start
 -- and VST. Proved of it in specs/Theorems.antt: what a VST says, and when one is sent.
 -- Assumes nothing.
-use Rattle.std.specs.Prelude.{◌≡◌, ℕ, ◌^◌, Bool, true, not, ◌&&◌, List, [], ◌∷◌, ◌++◌, length, take, drop, ◌==◌, nat_lt}
+use Rattle.std.specs.Prelude.{◌≡◌, ℕ, Option, None, Some, Result, Ok, Err, ◌^◌, Bool, true, not, ◌&&◌, List, [], ◌∷◌, ◌++◌, length, take, drop, ◌==◌, nat_lt}
 use Rattle.refusals.specs.Check.{pick, Check, check, first_of}
+use Rattle.refusals.specs.declared.Refusal.{Refusal}
+use Rattle.refusals.specs.Refusal.{number_of}
 use Rattle.apdu_format.specs.Component.{octet_string}
 use Rattle.apdu_format.specs.Reading.{Value}
 use Rattle.apdu_format.specs.Writing.{size, encoded_octets}
@@ -20,12 +22,10 @@ use Rattle.initialisation.specs.declared.records.Link.{Link}
 use Rattle.initialisation.specs.declared.records.Element.{Element}
 use Rattle.initialisation.specs.declared.records.Elements.{Elements}
 use Rattle.initialisation.specs.declared.records.Configuration.{Configuration}
-use Rattle.initialisation.specs.declared.records.BstAnswer.{BstAnswer}
-use Rattle.initialisation.specs.declared.records.BstAnswer.TheVariants as answer
-use Rattle.initialisation.specs.declared.records.BstResult.{BstResult}
+use Rattle.initialisation.specs.declared.hearing.Taken.{Taken}
 use Rattle.initialisation.specs.Link.{lid_in_range, link_in_range}
 use Rattle.initialisation.specs.Elements.{own_elements, elements_sound}
-use Rattle.initialisation.specs.Offer.{Found, nothing, found, profile_of, offered_by, pair_of}
+use Rattle.initialisation.specs.Offer.{profile_of, offered_by, pair_of}
 use Rattle.initialisation.specs.Known.{is_known}
 
 -- what a BST call brings; `lent` are the octets of the BST record's strings, `marks` those of the elements'
@@ -73,27 +73,22 @@ hearing_refusal c =
 
 -- ---- what is taken
 
--- a profile, and the element of a pair
-pub record Taken : Type 0 where
-  pub profile : ℕ
-  pub element : Element
-
 -- no profile or no pair: nothing
-abbrev pub both : Found ℕ → Found Element → Found Taken
-both nothing e = nothing
-both (found p) nothing = nothing
-both (found p) (found e) = found (record { profile = p; element = e })
+abbrev pub both : Option ℕ → Option Element → Option Taken
+both None e = None
+both (Some p) None = None
+both (Some p) (Some e) = Some (record { profile = p; element = e })
 
 abbrev pub beacon_of : Bst → Beacon
 beacon_of bst = record { manufacturer = bst.manufacturer; individual = bst.individual }
 
 -- what a VST is sent for: what is taken, unless the tag is ready, with the same beacon, and the time difference 0 to 254
-unfoldable pub sent_for : Link → Bst → List Entry → List ℕ → Elements → Found Taken
+unfoldable pub sent_for : Link → Bst → List Entry → List ℕ → Elements → Option Taken
 sent_for link bst entries lent own =
-    pick (is_known link.phase link.time (beacon_of bst) bst.time) nothing
+    pick (is_known link.phase link.time (beacon_of bst) bst.time) None
     (both (profile_of lent bst) (pair_of (offered_by bst entries) (own_elements own)))
 
-abbrev pub sent : Call → Found Taken
+abbrev pub sent : Call → Option Taken
 sent c = sent_for c.link c.bst c.lists.entries c.lent c.own
 
 -- ---- the link afterwards
@@ -105,9 +100,9 @@ woken Looking = Looking
 woken (Ready beacon lid) = Ready beacon lid
 
 -- silent: the phase stays; a VST: ready under the fresh LID
-abbrev pub phase_after : Found Taken → Phase → Beacon → (lid : ℕ) → Phase
-phase_after nothing phase beacon lid = woken phase
-phase_after (found t) phase beacon lid = Ready beacon lid
+abbrev pub phase_after : Option Taken → Phase → Beacon → (lid : ℕ) → Phase
+phase_after None phase beacon lid = woken phase
+phase_after (Some t) phase beacon lid = Ready beacon lid
 
 -- every BST stores its time and tick
 abbrev pub link_after : Call → Link
@@ -149,14 +144,14 @@ pub data Reply : Type 0 where
   silent : Reply
   vst : ℕ → Reply
 
-abbrev pub reply_to : Found Taken → List ℕ → Configuration → Reply
-reply_to nothing marks k = silent
-reply_to (found t) marks k = vst (size (vst_for t marks k))
+abbrev pub reply_to : Option Taken → List ℕ → Configuration → Reply
+reply_to None marks k = silent
+reply_to (Some t) marks k = vst (size (vst_for t marks k))
 
 -- the VST's octets from the front, and every other octet as it was
-abbrev pub output_for : Found Taken → List ℕ → Configuration → List ℕ → List ℕ
-output_for nothing marks k out = out
-output_for (found t) marks k out = let vs = vst_for t marks k in encoded_octets vs ++ drop (size vs) out
+abbrev pub output_for : Option Taken → List ℕ → Configuration → List ℕ → List ℕ
+output_for None marks k out = out
+output_for (Some t) marks k out = let vs = vst_for t marks k in encoded_octets vs ++ drop (size vs) out
 
 -- what a call answers, and the link and the output after it
 pub record Heard : Type 0 where
@@ -176,13 +171,13 @@ heard_of c =
     (record { reply = refused (hearing_refusal c); link = c.link; out = c.out })
 
 -- 01's number and values for each case of the answer
-abbrev pub reply_of : BstAnswer → Reply
-reply_of answer.Silent = silent
-reply_of (answer.Vst n) = vst n
-reply_of (answer.Refused n) = refused n
+abbrev pub reply_of : Result (Option ℕ) Refusal → Reply
+reply_of (Ok None) = silent
+reply_of (Ok (Some n)) = vst n
+reply_of (Err refusal) = refused (number_of refusal)
 
 -- the contract
-pub record BstGives (c : Call) (r : BstResult) (out : List ℕ) : Type 0 where
-  pub reply_is : reply_of r.answer ≡ (heard_of c).reply
-  pub link_is : r.link ≡ (heard_of c).link
+pub record BstGives (c : Call) (r : Result (Option ℕ) Refusal) (link : Link) (out : List ℕ) : Type 0 where
+  pub reply_is : reply_of r ≡ (heard_of c).reply
+  pub link_is : link ≡ (heard_of c).link
   pub output_is : out ≡ (heard_of c).out

@@ -1,14 +1,13 @@
 -- The tag's link (01, "The tag's link"): the ranges of its record, and the release and tick calls, which change the phase only.
 -- Assumes nothing.
-use Rattle.std.specs.Prelude.{◌≡◌, ℕ, ◌+◌, ◌-◌, ◌%◌, ◌^◌, Bool, true, false, not, ◌&&◌, List, [], ◌∷◌, ◌==◌, nat_le, nat_lt}
+use Rattle.std.specs.Prelude.{◌≡◌, ℕ, Result, Ok, Err, ◌+◌, ◌-◌, ◌%◌, ◌^◌, Bool, true, false, not, ◌&&◌, List, [], ◌∷◌, ◌==◌, nat_le, nat_lt}
 use Rattle.refusals.specs.Check.{pick, Check, check, first_of, Answer, refused, accepted}
+use Rattle.refusals.specs.declared.Refusal.{Refusal}
+use Rattle.refusals.specs.Refusal.{number_of}
 use Rattle.initialisation.specs.declared.records.Beacon.{Beacon}
 use Rattle.initialisation.specs.declared.records.Phase.{Phase}
 use Rattle.initialisation.specs.declared.records.Phase.TheVariants.{Sleeping, Looking, Ready}
 use Rattle.initialisation.specs.declared.records.Link.{Link}
-use Rattle.initialisation.specs.declared.records.LinkAnswer.{LinkAnswer}
-use Rattle.initialisation.specs.declared.records.LinkAnswer.TheVariants.{Done, Refused}
-use Rattle.initialisation.specs.declared.records.LinkResult.{LinkResult}
 
 -- ---- ranges
 
@@ -77,15 +76,15 @@ unfoldable pub tick_of : ℕ → Link → Changed
 tick_of tick link = changed (check 23 (not (link_in_range link)) ∷ []) link (pick (is_asleep tick link.tick) (in_phase Sleeping link) link)
 
 -- 01's number for each case of the answer
-abbrev pub answer_of : LinkAnswer → Answer (Unit {0})
-answer_of Done = accepted tt
-answer_of (Refused number) = refused number
+abbrev pub answer_of : Result (Unit {0}) Refusal → Answer (Unit {0})
+answer_of (Ok done) = accepted tt
+answer_of (Err refusal) = refused (number_of refusal)
 
 -- the contracts
-pub record ReleaseGives (lid : ℕ) (link : Link) (r : LinkResult) : Type 0 where
-  pub answer_is : answer_of r.answer ≡ (release_of lid link).answer
-  pub link_is : r.link ≡ (release_of lid link).link
+pub record ReleaseGives (lid : ℕ) (link : Link) (r : Result (Unit {0}) Refusal) (after : Link) : Type 0 where
+  pub answer_is : answer_of r ≡ (release_of lid link).answer
+  pub link_is : after ≡ (release_of lid link).link
 
-pub record TickGives (tick : ℕ) (link : Link) (r : LinkResult) : Type 0 where
-  pub answer_is : answer_of r.answer ≡ (tick_of tick link).answer
-  pub link_is : r.link ≡ (tick_of tick link).link
+pub record TickGives (tick : ℕ) (link : Link) (r : Result (Unit {0}) Refusal) (after : Link) : Type 0 where
+  pub answer_is : answer_of r ≡ (tick_of tick link).answer
+  pub link_is : after ≡ (tick_of tick link).link

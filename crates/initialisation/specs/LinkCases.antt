@@ -2,16 +2,17 @@
 -- The tag has element 1 of application 1 with 01's mark of six octets, and the elements 2 and 3 of application 2 without a mark. A BST comes at time
 -- 1,600,000,000 and tick 9 with the fresh LID 7.
 -- Assumes nothing.
-use Rattle.std.specs.Prelude.{◌≡◌, ℕ, ◌-◌, ◌^◌, false, List, [], ◌∷◌, ◌++◌, map, length, replicate, nat_lt}
+use Rattle.std.specs.Prelude.{◌≡◌, ℕ, Err, ◌-◌, ◌^◌, false, List, [], ◌∷◌, ◌++◌, map, length, replicate, nat_lt}
 use Rattle.refusals.specs.Check.{Answer, accepted}
 use Rattle.refusals.specs.Check as check
+use Rattle.refusals.specs.declared.Refusal.{Refusal}
+use Rattle.refusals.specs.Refusal.{number_of}
 use Rattle.apdu.specs.declared.lists.Entry.{Entry}
 use Rattle.apdu.specs.declared.records.Bst.{Bst}
 use Rattle.initialisation.specs.declared.records.Beacon.{Beacon}
 use Rattle.initialisation.specs.declared.records.Phase.{Phase}
 use Rattle.initialisation.specs.declared.records.Phase.TheVariants.{Sleeping, Looking, Ready}
 use Rattle.initialisation.specs.declared.records.Link.{Link}
-use Rattle.initialisation.specs.declared.records.LinkAnswer.TheVariants.{Refused}
 use Rattle.initialisation.specs.declared.records.Element.{Element}
 use Rattle.initialisation.specs.declared.records.Elements.{Elements}
 use Rattle.initialisation.specs.Link.{Changed, release_of, tick_of, answer_of}
@@ -171,4 +172,4 @@ pub record LinkCasesHold : Type 0 where
   pub bsts : map (λ (c : Case). heard_of c.call) bst_cases ≡ map (λ (c : Case). c.gives) bst_cases
   pub changes : map (λ (c : ChangeCase). c.call) change_cases ≡ map (λ (c : ChangeCase). c.gives) change_cases
   -- a refusal is told as its own number, also one that no release or tick call has
-  pub numbers : (n : ℕ) → answer_of (Refused n) ≡ check.refused n
+  pub numbers : (refusal : Refusal) → answer_of (Err refusal) ≡ check.refused (number_of refusal)

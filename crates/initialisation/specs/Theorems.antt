@@ -1,15 +1,16 @@
 -- What is proved of the BST call beyond its definition (proofs/Theorems.antt): a VST that is sent reads back as what was taken; a silent or refused call
 -- leaves the output; the fresh LID is taken exactly when a VST is sent.
 -- Assumes nothing.
-use Rattle.std.specs.Prelude.{◌≡◌, ℕ, ◌≤◌, List, [], ◌∷◌, ◌++◌, take, nat_lt}
+use Rattle.std.specs.Prelude.{◌≡◌, ℕ, ◌≤◌, Some, List, [], ◌∷◌, ◌++◌, take, nat_lt}
 use Rattle.apdu_format.specs.Reading.{Value, fields}
 use Rattle.apdu_format.specs.RoundTrip.{ReadAs}
 use Rattle.apdu.specs.Values.{bit_of, num, str, if}
 use Rattle.initialisation.specs.declared.records.Configuration.{Configuration}
 use Rattle.initialisation.specs.declared.records.Phase.TheVariants.{Ready}
+use Rattle.initialisation.specs.declared.hearing.Taken.{Taken}
 use Rattle.initialisation.specs.Elements.{own_elements}
-use Rattle.initialisation.specs.Offer.{found, profile_of, offered_by, pair_of}
-use Rattle.initialisation.specs.Hearing.{Call, Taken, beacon_of, woken, mark_of, refused, silent, vst, heard_of}
+use Rattle.initialisation.specs.Offer.{profile_of, offered_by, pair_of}
+use Rattle.initialisation.specs.Hearing.{Call, beacon_of, woken, mark_of, refused, silent, vst, heard_of}
 
 -- the values of a VST: choice 9, fill 0, the profile, one application; its entry with an eid, with a parameter unless the mark is empty, AID, eid and mark;
 -- and the configuration with its status
@@ -24,8 +25,8 @@ vst_says t marks k =
 -- a VST of n octets was sent: they stand at the output's front, and are read as those values of the profile and the pair that the BST call takes
 pub record VstSent (c : Call) (n : ℕ) : Type 0 where
   pub taken : Taken
-  pub profile_taken : profile_of c.lent c.bst ≡ found taken.profile
-  pub pair_taken : pair_of (offered_by c.bst c.lists.entries) (own_elements c.own) ≡ found taken.element
+  pub profile_taken : profile_of c.lent c.bst ≡ Some taken.profile
+  pub pair_taken : pair_of (offered_by c.bst c.lists.entries) (own_elements c.own) ≡ Some taken.element
   pub short : n ≤ 512
   pub reads : ReadAs (take n (heard_of c).out) (vst_says taken c.marks c.configuration)
   pub fresh : (heard_of c).link.phase ≡ Ready (beacon_of c.bst) c.lid

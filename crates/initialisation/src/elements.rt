@@ -1,6 +1,6 @@
 // The soundness of the tag's elements.
-ghost use Rattle.std.specs.Prelude.{◌≡◌, ◌+◌, ◌<◌, ◌≤◌, drop};
-ghost use Rattle.initialisation.specs.Elements.{element_sound, none_has, each_sound, own_elements, elements_sound};
+ghost use Rattle.std.specs.Prelude.{◌≡◌};
+ghost use Rattle.initialisation.specs.Elements.{element_sound, none_has, each_sound, elements_sound};
 
 use crate::records::{Element, Elements};
 
@@ -16,57 +16,36 @@ pub const LONGEST_MARK: u8 = 127;
 fn element_sound(element: Element, octets: usize) -> bool
     ensures { result ≡ element_sound octets element }
 {
-    if element.eid < 1 {
-        return false;
-    }
-    if LARGEST_EID < element.eid {
-        return false;
-    }
-    if LARGEST_AID < element.aid {
-        return false;
-    }
-    if LONGEST_MARK < element.mark_length {
-        return false;
-    }
-    bits::inside(
-        octets,
-        8 * (element.mark as usize),
-        element.mark_length as usize,
-    )
+    1 <= element.eid
+        && element.eid <= LARGEST_EID
+        && element.aid <= LARGEST_AID
+        && element.mark_length <= LONGEST_MARK
+        && bits::inside(
+            octets,
+            8 * (element.mark as usize),
+            usize::from(element.mark_length),
+        )
 }
 
-// Whether no element from `from` on has this eid.
-fn none_has(own: Elements, from: usize, eid: u8) -> bool
-    requires { (from ≤ own.count) × (own.count ≤ 8) }
-    ensures { result ≡ none_has eid (drop from (own_elements own)) }
+// Whether no element of the list has this eid.
+fn none_has(list: &[Element], eid: u8) -> bool
+    ensures { result ≡ none_has eid list.now }
 {
-    let n = own.count;
-    let mut i = from;
-    while i < n {
-        let element = own.list[i];
+    for element in list {
         if element.eid == eid {
             return false;
         }
-        i += 1;
     }
     true
 }
 
-fn each_sound(own: Elements, octets: usize) -> bool
-    requires { own.count ≤ 8 }
-    ensures { result ≡ each_sound octets (own_elements own) }
+fn each_sound(list: &[Element], octets: usize) -> bool
+    ensures { result ≡ each_sound octets list.now }
 {
-    let n = own.count;
-    let mut i: usize = 0;
-    while i < n {
-        let element = own.list[i];
-        if !element_sound(element, octets) {
+    for (i, element) in list.iter().enumerate() {
+        if !element_sound(*element, octets) || !none_has(&list[i + 1..], element.eid) {
             return false;
         }
-        if !none_has(own, i + 1, element.eid) {
-            return false;
-        }
-        i += 1;
     }
     true
 }
@@ -75,8 +54,5 @@ fn each_sound(own: Elements, octets: usize) -> bool
 pub(crate) fn elements_sound(own: Elements, octets: usize) -> bool
     ensures { result ≡ elements_sound octets own }
 {
-    if MOST_ELEMENTS < own.count {
-        return false;
-    }
-    each_sound(own, octets)
+    own.count <= MOST_ELEMENTS && each_sound(&own.list[..own.count], octets)
 }

@@ -1,20 +1,20 @@
 // The BST call.
 ghost use Rattle.std.specs.Prelude.{◌≡◌, ◌^◌, ◌<◌, ◌≤◌, true, length};
-ghost use Rattle.refusals.specs.Check.{pick, first_of};
+ghost use Rattle.refusals.specs.Check.{first_of};
+ghost use Rattle.refusals.specs.Refusal.{refused_by};
 ghost use Rattle.bits.specs.Strings.{is_inside};
 ghost use Rattle.initialisation.specs.Elements.{element_sound};
-ghost use Rattle.initialisation.specs.Offer.{nothing};
-ghost use Rattle.initialisation.specs.Hearing.{call, configuration_in_range, records_in_range, hearing_checks, both, beacon_of, sent_for, woken, entry_of, vst_of, BstGives};
+ghost use Rattle.initialisation.specs.Hearing.{call, configuration_in_range, records_in_range, hearing_checks, beacon_of, sent_for, woken, entry_of, vst_of, BstGives};
 ghost use Rattle.initialisation.specs.Theorems.{Hears};
-ghost use Rattle.initialisation.specs.Searching.{profile_in, pair_in, decision_in, octets_in, Sends};
+ghost use Rattle.initialisation.specs.Searching.{Sends};
 
 use crate::elements::elements_sound;
 use crate::known::is_known;
-use crate::offer::{Pair, Profile, take_pair, take_profile};
+use crate::offer::{take_pair, take_profile};
 use crate::phases::{lid_in_range, link_in_range};
-use crate::records::{Beacon, BstAnswer, BstResult, Configuration, Element, Elements, Link, Phase};
+use crate::records::{Beacon, Configuration, Element, Elements, Link, Phase};
 use apdu::{Bst, Entry, Lists, Message, Vst};
-use apdu_writing::ApduWritten;
+use refusals::Refusal;
 
 // The octets that an output must have.
 pub const LEAST_OUTPUT: usize = 512;
@@ -28,13 +28,9 @@ const WORD_BOUND: u64 = 65536;
 fn configuration_in_range(configuration: Configuration) -> bool
     ensures { result ≡ configuration_in_range configuration }
 {
-    if CLASS_BOUND <= configuration.class {
-        return false;
-    }
-    if WORD_BOUND <= configuration.maker {
-        return false;
-    }
-    configuration.status < WORD_BOUND
+    configuration.class < CLASS_BOUND
+        && configuration.maker < WORD_BOUND
+        && configuration.status < WORD_BOUND
 }
 
 fn records_in_range(
@@ -46,43 +42,37 @@ fn records_in_range(
 ) -> bool
     ensures { result ≡ records_in_range link bst lists lent.now configuration }
 {
-    if !link_in_range(link) {
-        return false;
-    }
-    let rows = lists.rows;
-    let entries = lists.entries;
-    if !apdu_writing::well_formed(Message::Bst(bst), rows, entries, lent) {
-        return false;
-    }
-    configuration_in_range(configuration)
+    link_in_range(link)
+        && apdu_writing::well_formed(Message::Bst(bst), lists.rows, lists.entries, lent)
+        && configuration_in_range(configuration)
 }
 
-// The number of the first check to hold, or 0.
-fn refusal(octets: usize, lid: u32, sound: bool, fine: bool) -> u8
-    ensures { result ≡ first_of (hearing_checks octets lid sound fine) }
+// The first check to hold refuses.
+fn check(octets: usize, lid: u32, sound: bool, fine: bool) -> Result<(), Refusal>
+    ensures { refused_by result ≡ first_of (hearing_checks octets lid sound fine) }
 {
     if octets < LEAST_OUTPUT {
-        return refusals::STORE_OR_OUTPUT_LENGTH;
+        return Err(Refusal::StoreOrOutputLength);
     }
     if !lid_in_range(lid) {
-        return refusals::LID_OUT_OF_RANGE;
+        return Err(Refusal::LidOutOfRange);
     }
     if !sound {
-        return refusals::LIST_NOT_SOUND;
+        return Err(Refusal::ListNotSound);
     }
     if !fine {
-        return refusals::RECORD_OUT_OF_RANGE;
+        return Err(Refusal::RecordOutOfRange);
     }
-    0
+    Ok(())
 }
 
 // ---- silence or a fresh start
 
-// What the tag makes of a BST.
-#[derive(Clone, Copy)]
-pub enum Decision {
-    Stay,
-    Start { profile: u64, element: Element },
+// What the tag takes of a BST: a profile, and the element of a pair.
+#[derive(Clone, Copy, Debug, PartialEq, Eq)]
+pub struct Taken {
+    pub profile: u64,
+    pub element: Element,
 }
 
 fn beacon_of(bst: Bst) -> Beacon
@@ -94,33 +84,17 @@ fn beacon_of(bst: Bst) -> Beacon
     }
 }
 
-fn decide(profile: Profile, pair: Pair, known: bool) -> Decision
-    ensures { decision_in result ≡ pick known nothing (both (profile_in profile) (pair_in pair)) }
-{
-    if known {
-        return Decision::Stay;
-    }
-    match profile {
-        Profile::NoProfile => Decision::Stay,
-        Profile::Taken(p) => match pair {
-            Pair::NoPair => Decision::Stay,
-            Pair::Taken(element) => Decision::Start {
-                profile: p,
-                element,
-            },
-        },
-    }
-}
-
-fn choose(link: Link, bst: Bst, entries: [Entry; 32], lent: &[u8], own: Elements) -> Decision
+// What a VST is sent for, if one is sent.
+fn choose(link: Link, bst: Bst, entries: [Entry; 32], lent: &[u8], own: Elements) -> Option<Taken>
     requires { (own.count ≤ 8) × (is_inside (length lent.now) bst.profiles bst.profile_count ≡ true) × (bst.time < 2 ^ 32) }
-    ensures { decision_in result ≡ sent_for link bst entries lent.now own }
+    ensures { result ≡ sent_for link bst entries lent.now own }
 {
-    let phase = link.phase;
-    let known = is_known(phase, link.time, beacon_of(bst), bst.time as u32);
-    let profile = take_profile(bst, lent);
-    let pair = take_pair(bst, entries, own);
-    decide(profile, pair, known)
+    if is_known(link.phase, link.time, beacon_of(bst), bst.time as u32) {
+        return None;
+    }
+    let profile = take_profile(bst, lent)?;
+    let element = take_pair(bst, entries, own)?;
+    Some(Taken { profile, element })
 }
 
 // The phase of a tag that heard a BST and stays silent.
@@ -129,41 +103,7 @@ fn waken(phase: Phase) -> Phase
 {
     match phase {
         Phase::Sleeping => Phase::Looking,
-        Phase::Looking => phase,
-        Phase::Ready { beacon: _, lid: _ } => phase,
-    }
-}
-
-// ---- answers
-
-fn refused(number: u8, link: Link) -> BstResult
-    ensures { (result.answer ≡ BstAnswer.Refused number) × (result.link ≡ link) }
-{
-    BstResult {
-        answer: BstAnswer::Refused(number),
-        link,
-    }
-}
-
-fn silent(time: u32, tick: u32, phase: Phase) -> BstResult
-    ensures { (result.answer ≡ BstAnswer.Silent) × (result.link ≡ record { time = time; tick = tick; phase = phase }) }
-{
-    BstResult {
-        answer: BstAnswer::Silent,
-        link: Link { time, tick, phase },
-    }
-}
-
-fn started(octets: usize, time: u32, tick: u32, beacon: Beacon, lid: u32) -> BstResult
-    ensures { (result.answer ≡ BstAnswer.Vst octets) × (result.link ≡ record { time = time; tick = tick; phase = Phase.Ready beacon lid }) }
-{
-    BstResult {
-        answer: BstAnswer::Vst(octets),
-        link: Link {
-            time,
-            tick,
-            phase: Phase::Ready { beacon, lid },
-        },
+        Phase::Looking | Phase::Ready { .. } => phase,
     }
 }
 
@@ -199,18 +139,6 @@ fn vst_of(profile: u64, configuration: Configuration) -> Vst
     }
 }
 
-// How many octets were written.
-fn octets_of(written: ApduWritten) -> usize
-    ensures { result ≡ octets_in written }
-{
-    match written {
-        ApduWritten::RecordOutOfRange => 0,
-        ApduWritten::MessageTooLong(_) => 0,
-        ApduWritten::OutputTooSmall => 0,
-        ApduWritten::Octets(n) => n,
-    }
-}
-
 // Writes the VST, and answers how many octets it has.
 fn send(
     profile: u64,
@@ -227,17 +155,16 @@ fn send(
     let vst = vst_of(profile, configuration);
     let first = element.mark as usize;
     let mark = &marks[first..first + element.mark_length as usize];
-    let written = apdu_writing::write(Message::Vst(vst), apdu::no_rows(), entries, mark, out);
-    octets_of(written)
+    apdu_writing::write(Message::Vst(vst), apdu::no_rows(), entries, mark, out).unwrap_or(0)
 }
 
 // ---- the call
 
 // The tag hears a BST whose strings stand in `lent`; its elements' marks stand in `marks`. Every BST that is not refused stores its time and tick and wakes a
-// sleeping tag. The tag stays silent, or it starts under the fresh LID and writes its VST to the front of `out`. Refused 1 for an output below 512 octets,
-// then 3, 26, and 23 for the link, the BST or the configuration; a refusal changes nothing.
+// sleeping tag. The tag stays silent (None), or it starts under the fresh LID and writes its VST of so many octets to the front of `out`. Refused 1 for an
+// output below 512 octets, then 3, 26, and 23 for the link, the BST or the configuration; a refusal changes nothing.
 pub fn hear_bst(
-    link: Link,
+    link: &mut Link,
     bst: Bst,
     lists: Lists,
     lent: &[u8],
@@ -247,27 +174,29 @@ pub fn hear_bst(
     marks: &[u8],
     configuration: Configuration,
     out: &mut [u8],
-) -> BstResult
-    ensures gives { BstGives (call link bst lists lent.now tick lid own marks.now configuration out.old) result out.new }
-    ensures hears { Hears (call link bst lists lent.now tick lid own marks.now configuration out.old) }
+) -> Result<Option<usize>, Refusal>
+    ensures gives { BstGives (call link.old bst lists lent.now tick lid own marks.now configuration out.old) result link.new out.new }
+    ensures hears { Hears (call link.old bst lists lent.now tick lid own marks.now configuration out.old) }
 {
     let sound = elements_sound(own, marks.len());
-    let fine = records_in_range(link, bst, lists, lent, configuration);
-    let number = refusal(out.len(), lid, sound, fine);
-    if number != 0 {
-        return refused(number, link);
-    }
-    let entries = lists.entries;
+    let fine = records_in_range(*link, bst, lists, lent, configuration);
+    check(out.len(), lid, sound, fine)?;
     let time = bst.time as u32;
-    let decision = choose(link, bst, entries, lent, own);
-    match decision {
-        Decision::Stay => {
-            let phase = link.phase;
-            silent(time, tick, waken(phase))
+    match choose(*link, bst, lists.entries, lent, own) {
+        None => {
+            let phase = waken(link.phase);
+            *link = Link { time, tick, phase };
+            Ok(None)
         }
-        Decision::Start { profile, element } => {
+        Some(Taken { profile, element }) => {
             let octets = send(profile, element, configuration, marks, out);
-            started(octets, time, tick, beacon_of(bst), lid)
+            let beacon = beacon_of(bst);
+            *link = Link {
+                time,
+                tick,
+                phase: Phase::Ready { beacon, lid },
+            };
+            Ok(Some(octets))
         }
     }
 }

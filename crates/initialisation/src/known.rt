@@ -1,6 +1,6 @@
 // Whether a ready tag has answered a beacon already, not long ago.
 ghost use Rattle.std.specs.Prelude.{◌≡◌};
-ghost use Rattle.initialisation.specs.Known.{elapsed, is_soon, same_beacon, is_known};
+ghost use Rattle.initialisation.specs.Known.{elapsed, is_soon, is_known};
 
 use crate::records::{Beacon, Phase};
 
@@ -11,20 +11,8 @@ const LONGEST_SILENCE: i64 = 254;
 fn is_soon(time: u32, stored: u32) -> bool
     ensures { result ≡ is_soon (elapsed time stored) }
 {
-    let elapsed = (time as i64) - (stored as i64);
-    match elapsed {
-        0..=LONGEST_SILENCE => true,
-        _ => false,
-    }
-}
-
-fn same_beacon(a: Beacon, b: Beacon) -> bool
-    ensures { result ≡ same_beacon a b }
-{
-    if a.manufacturer != b.manufacturer {
-        return false;
-    }
-    a.individual == b.individual
+    let elapsed = i64::from(time) - i64::from(stored);
+    matches!(elapsed, 0..=LONGEST_SILENCE)
 }
 
 // Whether the tag is ready under this beacon, and the BST's time comes soon after the stored one.
@@ -32,16 +20,7 @@ pub(crate) fn is_known(phase: Phase, stored: u32, beacon: Beacon, time: u32) -> 
     ensures { result ≡ is_known phase stored beacon time }
 {
     match phase {
-        Phase::Sleeping => false,
-        Phase::Looking => false,
-        Phase::Ready {
-            beacon: own,
-            lid: _,
-        } => {
-            if !same_beacon(own, beacon) {
-                return false;
-            }
-            is_soon(time, stored)
-        }
+        Phase::Sleeping | Phase::Looking => false,
+        Phase::Ready { beacon: own, .. } => own == beacon && is_soon(time, stored),
     }
 }

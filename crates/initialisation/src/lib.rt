@@ -11,7 +11,4 @@ mod records;
 
 pub use hearing::hear_bst;
 pub use phases::{release, tick};
-pub use records::{
-    Beacon, BstAnswer, BstResult, Configuration, Element, Elements, Link, LinkAnswer, LinkResult,
-    Phase,
-};
+pub use records::{Beacon, Configuration, Element, Elements, Link, Phase};

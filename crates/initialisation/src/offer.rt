@@ -1,10 +1,10 @@
 // What a BST offers that the tag takes: a profile, and the first pair of an offered application and an element of its own.
-ghost use Rattle.std.specs.Prelude.{◌≡◌, ◌+◌, ◌*◌, ◌≤◌, true, length, take};
+ghost use Rattle.std.specs.Prelude.{◌≡◌, ◌+◌, ◌*◌, ◌≤◌, true, length};
 ghost use Rattle.bits.specs.Bits.{field};
 ghost use Rattle.bits.specs.Strings.{is_inside};
 ghost use Rattle.initialisation.specs.Elements.{own_elements};
 ghost use Rattle.initialisation.specs.Offer.{offered_by, pair_of, profile_of};
-ghost use Rattle.initialisation.specs.Searching.{pair_at, pair_in, profile_in, Counts};
+ghost use Rattle.initialisation.specs.Searching.{Counts};
 
 use crate::records::{Element, Elements};
 use apdu::{Bst, Entry};
@@ -13,18 +13,6 @@ use apdu::{Bst, Entry};
 pub const LARGEST_PROFILE: u64 = 1;
 // The entries that stand beside a BST.
 const ENTRIES: u64 = 32;
-
-#[derive(Clone, Copy)]
-pub enum Pair {
-    Taken(Element),
-    NoPair,
-}
-
-#[derive(Clone, Copy)]
-pub enum Profile {
-    Taken(u64),
-    NoProfile,
-}
 
 // ---- the profile
 
@@ -38,25 +26,23 @@ fn listed(lent: &[u8], start: usize, i: usize) -> u64
 }
 
 // The BST's profile if it is served, else the first such in its list.
-pub(crate) fn take_profile(bst: Bst, lent: &[u8]) -> Profile
+pub(crate) fn take_profile(bst: Bst, lent: &[u8]) -> Option<u64>
     requires { is_inside (length lent.now) bst.profiles bst.profile_count ≡ true }
-    ensures { profile_in result ≡ profile_of lent.now bst }
+    ensures { result ≡ profile_of lent.now bst }
 {
     let own = bst.profile;
     if own <= LARGEST_PROFILE {
-        return Profile::Taken(own);
+        return Some(own);
     }
     let start = bst.profiles;
     let n = bst.profile_count as usize;
-    let mut i: usize = 0;
-    while i < n {
+    for i in 0..n {
         let next = listed(lent, start, i);
         if next <= LARGEST_PROFILE {
-            return Profile::Taken(next);
+            return Some(next);
         }
-        i += 1;
     }
-    Profile::NoProfile
+    None
 }
 
 // ---- the pair
@@ -65,53 +51,25 @@ pub(crate) fn take_profile(bst: Bst, lent: &[u8]) -> Profile
 fn offered(bst: Bst) -> usize
     ensures { Counts bst result }
 {
-    let mandatory = bst.mandatory;
-    if ENTRIES < mandatory {
-        return ENTRIES as usize;
-    }
-    if !bst.has_others {
-        return mandatory as usize;
-    }
-    if ENTRIES - mandatory < bst.others {
-        return ENTRIES as usize;
-    }
-    (mandatory + bst.others) as usize
-}
-
-// The place in the list of the element that is taken; the list's count if there is no pair.
-fn first_pair(entries: [Entry; 32], offered: usize, own: Elements) -> usize
-    requires { (offered ≤ 32) × (own.count ≤ 8) }
-    ensures { (pair_at result (own_elements own) ≡ pair_of (take offered entries) (own_elements own)) × (result ≤ own.count) }
-{
-    let n = own.count;
-    let mut taken = n;
-    let mut i: usize = 0;
-    'search: while i < offered {
-        let entry = entries[i];
-        let mut j: usize = 0;
-        while j < n {
-            let element = own.list[j];
-            if element.aid == entry.aid {
-                taken = j;
-                break 'search;
-            }
-            j += 1;
-        }
-        i += 1;
-    }
-    taken
+    let others = if bst.has_others { bst.others } else { 0 };
+    bst.mandatory.saturating_add(others).min(ENTRIES) as usize
 }
 
 // The element of the first pair with equal AID.
-pub(crate) fn take_pair(bst: Bst, entries: [Entry; 32], own: Elements) -> Pair
+pub(crate) fn take_pair(bst: Bst, entries: [Entry; 32], own: Elements) -> Option<Element>
     requires { own.count ≤ 8 }
-    ensures { pair_in result ≡ pair_of (offered_by bst entries) (own_elements own) }
+    ensures { result ≡ pair_of (offered_by bst entries) (own_elements own) }
 {
-    let i = first_pair(entries, offered(bst), own);
-    let n = own.count;
-    if i < n {
-        let element = own.list[i];
-        return Pair::Taken(element);
+    let offered = &entries[..offered(bst)];
+    let list = &own.list[..own.count];
+    let mut taken = None;
+    'search: for entry in offered {
+        for element in list {
+            if element.aid == entry.aid {
+                taken = Some(*element);
+                break 'search;
+            }
+        }
     }
-    Pair::NoPair
+    taken
 }

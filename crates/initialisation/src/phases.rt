@@ -1,8 +1,9 @@
 // Release and tick calls: they change the phase only.
 ghost use Rattle.std.specs.Prelude.{◌≡◌};
-ghost use Rattle.initialisation.specs.Link.{lid_in_range, ready_in_range, phase_in_range, link_in_range, is_ready_under, ticks_since, is_asleep, in_phase, ReleaseGives, TickGives};
+ghost use Rattle.initialisation.specs.Link.{lid_in_range, ready_in_range, link_in_range, is_ready_under, is_asleep, ReleaseGives, TickGives};
 
-use crate::records::{Beacon, Link, LinkAnswer, LinkResult, Phase};
+use crate::records::{Beacon, Link, Phase};
+use refusals::Refusal;
 
 // A LID is below this bound.
 pub const LID_BOUND: u32 = 268435456;
@@ -22,113 +23,62 @@ pub(crate) fn lid_in_range(lid: u32) -> bool
 fn ready_in_range(beacon: Beacon, lid: u32) -> bool
     ensures { result ≡ ready_in_range beacon lid }
 {
-    if MANUFACTURER_BOUND <= beacon.manufacturer {
-        return false;
-    }
-    if INDIVIDUAL_BOUND <= beacon.individual {
-        return false;
-    }
-    lid_in_range(lid)
-}
-
-fn phase_in_range(phase: Phase) -> bool
-    ensures { result ≡ phase_in_range phase }
-{
-    match phase {
-        Phase::Sleeping => true,
-        Phase::Looking => true,
-        Phase::Ready { beacon, lid } => ready_in_range(beacon, lid),
-    }
+    beacon.manufacturer < MANUFACTURER_BOUND
+        && beacon.individual < INDIVIDUAL_BOUND
+        && lid_in_range(lid)
 }
 
 pub(crate) fn link_in_range(link: Link) -> bool
     ensures { result ≡ link_in_range link }
 {
-    let phase = link.phase;
-    phase_in_range(phase)
+    match link.phase {
+        Phase::Sleeping | Phase::Looking => true,
+        Phase::Ready { beacon, lid } => ready_in_range(beacon, lid),
+    }
 }
 
 fn is_ready_under(phase: Phase, lid: u32) -> bool
     ensures { result ≡ is_ready_under lid phase }
 {
     match phase {
-        Phase::Sleeping => false,
-        Phase::Looking => false,
-        Phase::Ready {
-            beacon: _,
-            lid: own,
-        } => own == lid,
+        Phase::Sleeping | Phase::Looking => false,
+        Phase::Ready { lid: own, .. } => own == lid,
     }
 }
 
-// The ticks since the last one, modulo 2^32.
-fn ticks_since(tick: u32, last: u32) -> u32
-    ensures { result ≡ ticks_since tick last }
-{
-    std::num::wrapping_sub_u32(tick, last)
-}
-
-// Whether a tag that was last awake at one tick sleeps at another.
+// Whether a tag that was last awake at one tick sleeps at another: ticks count modulo 2^32.
 fn is_asleep(tick: u32, last: u32) -> bool
     ensures { result ≡ is_asleep tick last }
 {
-    AWAKE_TICKS <= ticks_since(tick, last)
+    AWAKE_TICKS <= tick.wrapping_sub(last)
 }
 
-fn in_phase(phase: Phase, link: Link) -> Link
-    ensures { result ≡ in_phase phase link }
-{
-    Link {
-        time: link.time,
-        tick: link.tick,
-        phase,
-    }
-}
-
-fn refused(number: u8, link: Link) -> LinkResult
-    ensures { (result.answer ≡ LinkAnswer.Refused number) × (result.link ≡ link) }
-{
-    LinkResult {
-        answer: LinkAnswer::Refused(number),
-        link,
-    }
-}
-
-fn done(link: Link) -> LinkResult
-    ensures { (result.answer ≡ LinkAnswer.Done) × (result.link ≡ link) }
-{
-    LinkResult {
-        answer: LinkAnswer::Done,
-        link,
-    }
-}
-
-// Release of the link's LID: the tag is looking again. Refused 3, 23, or 25 where it is not ready under this LID.
-pub fn release(link: Link, lid: u32) -> LinkResult
-    ensures { ReleaseGives lid link result }
+// Release of the link's LID: the tag is looking again. Refused 3, 23, or 25 where it is not ready under this LID; a refusal changes nothing.
+pub fn release(link: &mut Link, lid: u32) -> Result<(), Refusal>
+    ensures { ReleaseGives lid link.old result link.new }
 {
     if !lid_in_range(lid) {
-        return refused(refusals::LID_OUT_OF_RANGE, link);
+        return Err(Refusal::LidOutOfRange);
     }
-    if !link_in_range(link) {
-        return refused(refusals::RECORD_OUT_OF_RANGE, link);
+    if !link_in_range(*link) {
+        return Err(Refusal::RecordOutOfRange);
     }
-    let phase = link.phase;
-    if !is_ready_under(phase, lid) {
-        return refused(refusals::LINK_NOT_READY, link);
+    if !is_ready_under(link.phase, lid) {
+        return Err(Refusal::LinkNotReady);
     }
-    done(in_phase(Phase::Looking, link))
+    link.phase = Phase::Looking;
+    Ok(())
 }
 
-// A tick passes: a tag that heard no BST for 100 ticks sleeps. Refused 23.
-pub fn tick(link: Link, now: u32) -> LinkResult
-    ensures { TickGives now link result }
+// A tick passes: a tag that heard no BST for 100 ticks sleeps. Refused 23; a refusal changes nothing.
+pub fn tick(link: &mut Link, now: u32) -> Result<(), Refusal>
+    ensures { TickGives now link.old result link.new }
 {
-    if !link_in_range(link) {
-        return refused(refusals::RECORD_OUT_OF_RANGE, link);
+    if !link_in_range(*link) {
+        return Err(Refusal::RecordOutOfRange);
     }
     if is_asleep(now, link.tick) {
-        return done(in_phase(Phase::Sleeping, link));
+        link.phase = Phase::Sleeping;
     }
-    done(link)
+    Ok(())
 }

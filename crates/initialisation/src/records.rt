@@ -1,14 +1,14 @@
-// The link record, what a tag has of its own, and what the calls answer.
+// The link record, and what a tag has of its own.
 
 // A beacon: 16 and 27 bits.
-#[derive(Clone, Copy)]
+#[derive(Clone, Copy, Debug, PartialEq, Eq)]
 pub struct Beacon {
     pub manufacturer: u64,
     pub individual: u64,
 }
 
 // A ready tag has answered a beacon and listens to a LID.
-#[derive(Clone, Copy)]
+#[derive(Clone, Copy, Debug, PartialEq, Eq)]
 pub enum Phase {
     Sleeping,
     Looking,
@@ -16,7 +16,7 @@ pub enum Phase {
 }
 
 // The time of the BST that was heard last, and the tick last awake: that BST's tick, in milliseconds.
-#[derive(Clone, Copy)]
+#[derive(Clone, Copy, Debug, PartialEq, Eq)]
 pub struct Link {
     pub time: u32,
     pub tick: u32,
@@ -24,7 +24,7 @@ pub struct Link {
 }
 
 // An application of the tag, with its mark: `mark_length` octets from octet `mark` of the lent ones on.
-#[derive(Clone, Copy)]
+#[derive(Clone, Copy, Debug, PartialEq, Eq)]
 pub struct Element {
     pub eid: u8,
     pub aid: u8,
@@ -33,43 +33,16 @@ pub struct Element {
 }
 
 // The first `count` of the list.
-#[derive(Clone, Copy)]
+#[derive(Clone, Copy, Debug, PartialEq, Eq)]
 pub struct Elements {
     pub list: [Element; 8],
     pub count: usize,
 }
 
 // What a VST tells of the tag: 15, 16 and 16 bits.
-#[derive(Clone, Copy)]
+#[derive(Clone, Copy, Debug, PartialEq, Eq)]
 pub struct Configuration {
     pub class: u64,
     pub maker: u64,
     pub status: u64,
-}
-
-// What a release or tick call answers.
-#[derive(Clone, Copy)]
-pub enum LinkAnswer {
-    Done,
-    Refused(u8),
-}
-
-#[derive(Clone, Copy)]
-pub struct LinkResult {
-    pub answer: LinkAnswer,
-    pub link: Link,
-}
-
-// What a BST call answers: nothing, a VST of so many octets at the output's front, or a refusal.
-#[derive(Clone, Copy)]
-pub enum BstAnswer {
-    Silent,
-    Vst(usize),
-    Refused(u8),
-}
-
-#[derive(Clone, Copy)]
-pub struct BstResult {
-    pub answer: BstAnswer,
-    pub link: Link,
 }
