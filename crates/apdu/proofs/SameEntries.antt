@@ -1,8 +1,8 @@
 -- Application entries: entries of the same values, each with its own rows, are the same, and so are their rows.
 -- Assumes nothing.
-use Prim.Native.Nat.{ℕ, suc, ◌+◌, ◌≤◌, min}
+use Prim.Native.Nat.{ℕ, suc, ◌≤◌, min}
 use mathlib.Core.Path.{◌≡◌, refl, ap, sym, ◌∙◌}
-use mathlib.Core.Bool.{Bool, true, false, ◌&&◌}
+use mathlib.Core.Bool.{Bool, true, false}
 use mathlib.Core.List.{List, [], ◌∷◌, ◌++◌, append_assoc}
 use native.Mathlib.Omega.{arith}
 use lib.ListN.{length, take, drop, get_or, length-take, length-drop}
@@ -11,7 +11,7 @@ use Rattle.apdu_format.specs.Reading.{Value}
 use Rattle.apdu_format.proofs.Tests.{never, both}
 use Rattle.apdu.specs.declared.lists.Row.{Row}
 use Rattle.apdu.specs.declared.lists.Entry.{Entry}
-use Rattle.apdu.specs.Values.{bit_of, if, num_if, container_values, entry_values, entry_rows, entries_values, rows_of, list_values, empty_row, empty_entry}
+use Rattle.apdu.specs.Values.{if, num_if, container_values, entry_values, entry_rows, entries_values, rows_of, list_values, empty_row, empty_entry}
 use Rattle.apdu.specs.Tidy.{Absent, row_tidy, RowsTidy, entry_tidy, ListsTidy}
 use Rattle.apdu.specs.Sound.{sound_if, count_if, entry_sound, entries_sound}
 use Rattle.apdu.proofs.Laws.{own_values, tidy_rows}

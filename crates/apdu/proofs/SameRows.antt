@@ -14,7 +14,7 @@ use Rattle.apdu.specs.declared.lists.Row.{Row}
 use Rattle.apdu.specs.Values.{if, num, head_values, row_values, rows_values, container_values, empty_row}
 use Rattle.apdu.specs.Tidy.{Absent, start_tidy, row_tidy}
 use Rattle.apdu.specs.Sound.{nested, closes, part_fits, parts_fit, rows_sound, container_sound, sound_if, count_if}
-use Rattle.apdu.proofs.SameFields.{HeadSame, head_same}
+use Rattle.apdu.proofs.SameFields.{head_same}
 
 -- ---- arrays
 

@@ -1,32 +1,19 @@
 -- Parts of a list of 32 places.
 -- Assumes nothing.
-use Prim.Native.Nat.{ℕ, ◌+◌, ◌-◌, ◌≤◌, ◌<◌}
+use Prim.Native.Nat.{ℕ, ◌+◌, ◌-◌, ◌<◌}
 use mathlib.Core.Path.{◌≡◌, refl, ap, sym, ◌∙◌}
 use mathlib.Core.List.{List, map}
 use native.Mathlib.Omega.{arith}
 use lib.ListN.{length, length-map, length-take, take, drop, get_or, length-drop}
 use lib.Seq.{take_all, length-take-le, get_or-take, get_or-drop}
 use lib.Dec.{ltb}
-use borrow.Author.Tests.{ltb-true, ltb-false, lt-ltb, le-ltb}
+use borrow.Author.Tests.{ltb-true, ltb-false}
 use Rattle.refusals.proofs.Tests.{by_test}
 use Rattle.apdu.specs.Tables.{lesser}
 
 -- an array of structs is as long as its values
 pub long : (A B : Type 0) (f : A → B) (l : List A) (n : ℕ) → length (map f l) ≡ n → length l ≡ n
 long A B f l n e = sym (length-map l f) ∙ e
-
-module _ (most n : ℕ) where
-  pub lesser_none : most ≡ 0 → 0 ≡ lesser most n
-  unfolding lesser
-  lesser_none e = by_test (λ (k : ℕ). 0 ≡ k) (ltb most n) (λ h. sym e) (λ h. omega (arith, ltb-false most n h))
-
-  pub lesser_most : most < n → most ≡ lesser most n
-  unfolding lesser
-  lesser_most h = rw (lt-ltb most n h)
-
-  pub lesser_all : n ≤ most → n ≡ lesser most n
-  unfolding lesser
-  lesser_all h = rw (le-ltb most n h)
 
 pub lesser_length : {A : Type 0} (n : ℕ) (l : List A) {most : ℕ} → length l ≡ most → length (take n l) ≡ lesser most n
 unfolding lesser

@@ -1,7 +1,7 @@
 -- Computed cases of Tidy.antt (01, "Messages": absent fields and unused rows are read as 0): records with their entries and
 -- rows, and whether they are tidy. A record that is not tidy differs from a tidy one in one number.
 -- Assumes nothing.
-use Rattle.std.specs.Prelude.{ℕ, List, [], ◌∷◌, Bool, true, false}
+use Rattle.std.specs.Prelude.{List, [], ◌∷◌, Bool, true, false}
 use Rattle.refusals.specs.Check.{pick}
 use Rattle.apdu.specs.declared.lists.Row.{Row}
 use Rattle.apdu.specs.declared.lists.Entry.{Entry}

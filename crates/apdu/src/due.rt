@@ -10,10 +10,10 @@ use crate::limits::{ATTRIBUTE_ID_LIST, ATTRIBUTE_LIST, DSRC_EID, OCTET_STRING};
 pub fn known(kind: u64) -> bool
     ensures { result ≡ known_kind kind }
 {
-    (kind == OCTET_STRING)
-        | (kind == DSRC_EID)
-        | (kind == ATTRIBUTE_ID_LIST)
-        | (kind == ATTRIBUTE_LIST)
+    matches!(
+        kind,
+        OCTET_STRING | DSRC_EID | ATTRIBUTE_ID_LIST | ATTRIBUTE_LIST
+    )
 }
 
 // How many rows a container announces.
@@ -24,7 +24,7 @@ pub fn announces(kind: u64, n: u64) -> u64
 }
 
 // How many rows are still to come in the list whose containers stand at depth 1, 2, .. 5.
-#[derive(Clone, Copy)]
+#[derive(Clone, Copy, Debug, Default, PartialEq, Eq)]
 pub struct Due {
     pub d1: u64,
     pub d2: u64,
@@ -38,24 +38,16 @@ pub fn level(o: Due) -> usize
     ensures { (result ≡ level_of o) × (result ≤ 5) }
 {
     if o.d5 != 0 {
-        return 5;
+        5
+    } else if o.d4 != 0 {
+        4
+    } else if o.d3 != 0 {
+        3
+    } else if o.d2 != 0 {
+        2
+    } else {
+        1
     }
-    if o.d4 != 0 {
-        return 4;
-    }
-    if o.d3 != 0 {
-        return 3;
-    }
-    if o.d2 != 0 {
-        return 2;
-    }
-    1
-}
-
-fn less(n: u64) -> u64
-    ensures { result ≡ n - 1 }
-{
-    if n == 0 { 0 } else { n - 1 }
 }
 
 // What is due after one row, whose container announces n rows.
@@ -63,46 +55,30 @@ pub fn after_row(o: Due, n: u64) -> Due
     ensures { result ≡ after_row o n }
 {
     if o.d5 != 0 {
-        return Due {
-            d1: o.d1,
-            d2: o.d2,
-            d3: o.d3,
-            d4: o.d4,
-            d5: less(o.d5),
-        };
-    }
-    if o.d4 != 0 {
-        return Due {
-            d1: o.d1,
-            d2: o.d2,
-            d3: o.d3,
-            d4: less(o.d4),
+        Due { d5: o.d5 - 1, ..o }
+    } else if o.d4 != 0 {
+        Due {
+            d4: o.d4 - 1,
             d5: n,
-        };
-    }
-    if o.d3 != 0 {
-        return Due {
-            d1: o.d1,
-            d2: o.d2,
-            d3: less(o.d3),
+            ..o
+        }
+    } else if o.d3 != 0 {
+        Due {
+            d3: o.d3 - 1,
             d4: n,
-            d5: 0,
-        };
-    }
-    if o.d2 != 0 {
-        return Due {
-            d1: o.d1,
-            d2: less(o.d2),
+            ..o
+        }
+    } else if o.d2 != 0 {
+        Due {
+            d2: o.d2 - 1,
             d3: n,
-            d4: 0,
-            d5: 0,
-        };
-    }
-    Due {
-        d1: less(o.d1),
-        d2: n,
-        d3: 0,
-        d4: 0,
-        d5: 0,
+            ..o
+        }
+    } else {
+        Due {
+            d1: o.d1.saturating_sub(1),
+            d2: n,
+            ..o
+        }
     }
 }

@@ -5,7 +5,7 @@ ghost use Rattle.apdu.specs.Tables.{lesser};
 ghost use Rattle.apdu.specs.Values.{empty_row, empty_entry, entry_rows};
 
 // An attribute and its container: n is a string's length, an EID, or a count; a list of n rows is followed by its rows.
-#[derive(Clone, Copy)]
+#[derive(Clone, Copy, Debug, Default, PartialEq, Eq)]
 pub struct Row {
     pub id: u8,
     pub kind: u8,
@@ -15,7 +15,7 @@ pub struct Row {
 
 // An application entry; kind, n and start are its parameter, and rows tells how many of the message's rows belong to it, nested ones too. The entries of
 // a message have at most 32 rows together, and 23 is given above; one without a parameter has none.
-#[derive(Clone, Copy)]
+#[derive(Clone, Copy, Debug, Default, PartialEq, Eq)]
 pub struct Entry {
     pub has_eid: bool,
     pub has_parameter: bool,
@@ -31,24 +31,22 @@ pub struct Entry {
 pub fn entry_rows(e: Entry) -> usize
     ensures { (result ≡ entry_rows e) × (result < 256) }
 {
-    if e.has_parameter { e.rows as usize } else { 0 }
+    if e.has_parameter {
+        usize::from(e.rows)
+    } else {
+        0
+    }
 }
 
 // How many of `count` places from `first` on are among 32.
 pub fn clamped(first: usize, count: usize) -> usize
     ensures { (result ≡ lesser (32 - first) count) × (result ≤ 32 - first) }
 {
-    if 32 <= first {
-        return 0;
-    }
-    if 32 - first < count {
-        return 32 - first;
-    }
-    count
+    count.min(32usize.saturating_sub(first))
 }
 
 // The entries and rows of a message, in its order; unused ones are 0.
-#[derive(Clone, Copy)]
+#[derive(Clone, Copy, Debug, PartialEq, Eq)]
 pub struct Lists {
     pub entries: [Entry; 32],
     pub rows: [Row; 32],
@@ -58,26 +56,12 @@ pub struct Lists {
 pub fn no_rows() -> [Row; 32]
     ensures { result ≡ replicate 32 empty_row }
 {
-    [Row {
-        id: 0,
-        kind: 0,
-        n: 0,
-        start: 0,
-    }; 32]
+    [Row::default(); 32]
 }
 
 // Entries of which none is used.
 pub fn no_entries() -> [Entry; 32]
     ensures { result ≡ replicate 32 empty_entry }
 {
-    [Entry {
-        has_eid: false,
-        has_parameter: false,
-        aid: 0,
-        eid: 0,
-        kind: 0,
-        n: 0,
-        start: 0,
-        rows: 0,
-    }; 32]
+    [Entry::default(); 32]
 }

@@ -2,7 +2,7 @@
 // most 32 where the list is there, and 23 above. A BST and a VST have the rows of their entries.
 
 // Action or event request: `service` is the action's or the event's type.
-#[derive(Clone, Copy)]
+#[derive(Clone, Copy, Debug, PartialEq, Eq)]
 pub struct Request {
     pub mode: bool,
     pub eid: u64,
@@ -19,7 +19,7 @@ pub struct Request {
     pub iid: u64,
 }
 
-#[derive(Clone, Copy)]
+#[derive(Clone, Copy, Debug, PartialEq, Eq)]
 pub struct ActionResponse {
     pub fill: u64,
     pub eid: u64,
@@ -35,7 +35,7 @@ pub struct ActionResponse {
 }
 
 // Event or set response.
-#[derive(Clone, Copy)]
+#[derive(Clone, Copy, Debug, PartialEq, Eq)]
 pub struct Response {
     pub fill: u64,
     pub eid: u64,
@@ -46,7 +46,7 @@ pub struct Response {
 }
 
 // `count` attributes, whose rows stand beside the message.
-#[derive(Clone, Copy)]
+#[derive(Clone, Copy, Debug, PartialEq, Eq)]
 pub struct SetRequest {
     pub fill: u64,
     pub mode: bool,
@@ -61,7 +61,7 @@ pub struct SetRequest {
 }
 
 // `count` ids from bit place `ids` on.
-#[derive(Clone, Copy)]
+#[derive(Clone, Copy, Debug, PartialEq, Eq)]
 pub struct GetRequest {
     pub fill: u64,
     pub eid: u64,
@@ -75,7 +75,7 @@ pub struct GetRequest {
     pub count: u64,
 }
 
-#[derive(Clone, Copy)]
+#[derive(Clone, Copy, Debug, PartialEq, Eq)]
 pub struct GetResponse {
     pub fill: u64,
     pub eid: u64,
@@ -89,7 +89,7 @@ pub struct GetResponse {
 }
 
 // The entries of the mandatory applications, and behind them those of the others; `profile_count` profiles from bit place `profiles` on.
-#[derive(Clone, Copy)]
+#[derive(Clone, Copy, Debug, PartialEq, Eq)]
 pub struct Bst {
     pub manufacturer: u64,
     pub individual: u64,
@@ -102,7 +102,7 @@ pub struct Bst {
     pub profile_count: u64,
 }
 
-#[derive(Clone, Copy)]
+#[derive(Clone, Copy, Debug, PartialEq, Eq)]
 pub struct Vst {
     pub fill: u64,
     pub profile: u64,
@@ -113,7 +113,7 @@ pub struct Vst {
     pub status: u64,
 }
 
-#[derive(Clone, Copy)]
+#[derive(Clone, Copy, Debug, PartialEq, Eq)]
 pub enum Message {
     ActionRequest(Request),
     ActionResponse(ActionResponse),

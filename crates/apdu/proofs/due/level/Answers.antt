@@ -21,6 +21,6 @@ pub returns-then-o-ne0-4 : goal.returns-then-o-ne0-4
 unfolding level_of
 returns-then-o-ne0-4 c = (simp (ne_eqb _ _ c.if-o-ne0-4.true, eq-eqb _ _ c.if-o-ne0-3.false, eq-eqb _ _ c.if-o-ne0-2.false, eq-eqb _ _ c.if-o-ne0.false), omega arith)
 
-pub returns : goal.returns
+pub returns-else-o-ne0-4 : goal.returns-else-o-ne0-4
 unfolding level_of
-returns c = (simp (eq-eqb _ _ c.if-o-ne0-4.false, eq-eqb _ _ c.if-o-ne0-3.false, eq-eqb _ _ c.if-o-ne0-2.false, eq-eqb _ _ c.if-o-ne0.false), omega arith)
+returns-else-o-ne0-4 c = (simp (eq-eqb _ _ c.if-o-ne0-4.false, eq-eqb _ _ c.if-o-ne0-3.false, eq-eqb _ _ c.if-o-ne0-2.false, eq-eqb _ _ c.if-o-ne0.false), omega arith)

@@ -1,14 +1,17 @@
--- The three ways of `lesser`.
+-- The two ways of `lesser`.
 -- Assumes nothing.
+use Prim.Native.Nat.{ℕ, ◌-◌}
+use mathlib.Core.Path.{◌≡◌}
 use native.Mathlib.Omega.{arith}
-use Rattle.apdu.proofs.Tables.{lesser_none, lesser_most, lesser_all}
+use borrow.Author.Tests.{ltb-true, ltb-false}
+use lib.Dec.{ltb}
+use Rattle.refusals.proofs.Tests.{by_test}
+use Rattle.apdu.specs.Tables.{lesser}
 use Rattle.apdu.proofs.lists.clamped.Goals as goal
 
-pub returns-then-first-ge32 : goal.returns-then-first-ge32
-returns-then-first-ge32 c = (lesser_none _ _ (omega arith), omega arith)
-
-pub returns-then-first-count : goal.returns-then-first-count
-returns-then-first-count c = (lesser_most _ _ (omega arith), omega arith)
-
 pub returns : goal.returns
-returns c = (lesser_all _ _ (omega arith), omega arith)
+unfolding lesser
+returns c =
+    let most = 32 - c.args.first in
+    let n = c.args.count in
+    (by_test (λ (k : ℕ). c.min.result ≡ k) (ltb most n) (λ h. omega (arith, ltb-true most n h)) (λ h. omega (arith, ltb-false most n h)), omega arith)

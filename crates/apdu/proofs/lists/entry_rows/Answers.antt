@@ -5,7 +5,7 @@ use Rattle.apdu.proofs.lists.entry_rows.Goals as goal
 
 pub returns-then-e : goal.returns-then-e
 unfolding entry_rows
-returns-then-e c = (simp c.if-e.true, omega arith)
+returns-then-e c = (simp c.if-e.true c.from.ensures, omega arith)
 
 pub returns-else-e : goal.returns-else-e
 unfolding entry_rows
