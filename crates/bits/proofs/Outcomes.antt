@@ -5,22 +5,19 @@ use mathlib.Core.Bool.{true, false}
 use mathlib.Core.List.{List}
 use Prim.Native.Nat.{ℕ, ◌+◌, ◌*◌, ◌/◌, ◌%◌, ◌≤◌, ◌<◌, ◌-◌}
 use native.Mathlib.Omega.{arith}
-use lib.ListN.{length, get_or, get_or-eq_default}
+use lib.ListN.{length}
 use lib.Dec.{leb}
 use borrow.Author.Tests.{le-leb, lt-leb}
 use Rattle.refusals.proofs.Tests.{leb_same}
 use Rattle.bits.specs.Bits.{digits, field, put_bits, read_field, field_fits, write_field}
 use Rattle.bits.specs.Strings.{is_inside}
 
-pub past_end : (s : List ℕ) (i : ℕ) → length s ≤ i → 0 ≡ get_or s i 0
-past_end s i h = sym (get_or-eq_default s 0 h)
-
 -- ---- inside
 
 module _ (octets start n : ℕ) where
-  pub starts_outside : octets < start / 8 + (start % 8 + 7) / 8 → false ≡ is_inside octets start n
+  pub starts_outside : {first : ℕ} → first ≡ start / 8 + (start % 8 + 7) / 8 → octets < first → leb first octets ≡ is_inside octets start n
   unfolding is_inside
-  starts_outside h = sym (lt-leb (start + 8 * n) (8 * octets) (omega arith))
+  starts_outside {first} e h = lt-leb first octets h ∙ sym (lt-leb (start + 8 * n) (8 * octets) (omega arith))
 
   pub ends_inside : {first : ℕ} → first ≡ start / 8 + (start % 8 + 7) / 8 → first ≤ octets → leb n (octets - first) ≡ is_inside octets start n
   unfolding is_inside

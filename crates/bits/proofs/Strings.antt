@@ -1,17 +1,20 @@
 -- Laws of octet strings at a bit place: one octet more, a copy, a comparison, a write, and what is read back.
 -- Assumes nothing.
-use mathlib.Core.Path.{◌≡◌, refl, ap, sym, ◌∙◌}
-use mathlib.Core.Bool.{Bool, true, false, not, ◌&&◌}
-use Prim.Native.Nat.{ℕ, zero, suc, ◌+◌, ◌*◌, ◌/◌, ◌%◌, ◌≤◌, ◌<◌, ◌-◌}
+use mathlib.Core.Path.{◌≡◌, refl, ap, sym, ◌∙◌, subst}
+use mathlib.Core.Bool.{Bool, true, false}
+use Prim.Native.Nat.{ℕ, zero, suc, ◌+◌, ◌*◌, ◌/◌, ◌%◌, ◌≤◌, ◌<◌}
 use mathlib.Core.List.{List, [], ◌∷◌, ◌++◌, append_assoc, append-nil}
-use native.Mathlib.Nat.{add-zero, mod-eq_of_lt}
+use native.Mathlib.Nat.{add-zero, zero-add, mod-eq_of_lt}
 use native.Mathlib.Numerals.{add-one}
 use native.Mathlib.Omega.{arith}
 use lib.Dec.{eqb, ltb}
-use borrow.Author.Tests.{eq-eqb, ne_eqb, eqb-true, eqb-false, le-leb, lt-leb, leb-true, lt-ltb, le-ltb, not-true, not-false}
+use borrow.Author.Tests.{eq-eqb, ne_eqb, eqb-true, eqb-false, le-leb, lt-leb, leb-true, lt-ltb, le-ltb}
 use Rattle.refusals.proofs.Tests.{by_cases, and_true, and_left, and_right}
 use lib.ListN.{length, length-append, get_or, take, drop, set, take-append-drop}
 use lib.Seq.{drop-cons, set_at, length-take-le}
+use Rattle.std.specs.Bool.{MatchBool}
+use Rattle.std.specs.List.{range_with_len, AllWithin, HoldsAt}
+use Rattle.std.proofs.lemmas.List.FromFn.{get_or-range_with_len, length-range_with_len}
 use Rattle.bits.specs.Bits.{Octets, bits, digits, field, put_bits}
 use Rattle.bits.specs.Strings.{is_inside, string_at, same_octets, same_string, copy_fits, copy_string, write_fits, write_string, each_first_bit_clear, first_bits_clear}
 use Rattle.bits.proofs.Laws.{Ahead, below_nil, below_cons, below_tail, field_front, field_rest, bits_small, bits_append, length_bits, field_lt}
@@ -53,14 +56,35 @@ next_octet s start k e =
     let f : 8 * (start / 8) + start % 8 + 8 * k ≡ start + 8 * k = omega arith in
     e ∙ ap (λ (i : ℕ). field s i 8) f
 
+-- that octet, as the code reads it
+abbrev pub octet_at : List ℕ → ℕ → ℕ → ℕ
+octet_at s start k = field s (8 * (start / 8) + start % 8 + 8 * k) 8
+
+octet_is : (s : List ℕ) (start k : ℕ) → octet_at s start k ≡ field s (start + 8 * k) 8
+octet_is s start k = next_octet s start k refl
+
+front_octet : (s : List ℕ) (start : ℕ) → field s start 8 ≡ field s (start + 8 * 0) 8
+front_octet s start =
+    let e : start ≡ start + 8 * 0 = omega arith in
+    ap (λ (i : ℕ). field s i 8) e
+
+-- the octet behind the first k + 1 is the one behind k of those from the second on
+following : (s : List ℕ) (start k : ℕ) → field s (start + 8 + 8 * k) 8 ≡ field s (start + 8 * suc k) 8
+following s start k =
+    let e : start + 8 + 8 * k ≡ start + 8 * suc k = omega arith in
+    ap (λ (i : ℕ). field s i 8) e
+
+-- ---- what holds of each number below n, and of one of them
+
+each_below : (n : ℕ) (P : ℕ → Type 0) → AllWithin P (range_with_len 0 n) 0 (length (range_with_len 0 n)) → (k : ℕ) → k < n → P k
+each_below n P f k h = subst P (get_or-range_with_len 0 n k 0 h ∙ zero-add k) (f k 0 (omega arith) (omega (arith, length-range_with_len 0 n)))
+
+one_below : (n : ℕ) (P : ℕ → Type 0) → ((k : ℕ) × (k < length (range_with_len 0 n)) × HoldsAt P (range_with_len 0 n) k) → (k : ℕ) × ((k < n) × P k)
+one_below n P (k, h, f) =
+    let j : k < n = omega (arith, length-range_with_len 0 n) in
+    (k, (j, subst P (get_or-range_with_len 0 n k 0 j ∙ zero-add k) (f 0)))
+
 -- ---- a part inside its octets
-
-module _ (octets start n : ℕ) {r : Bool} (is : r ≡ is_inside octets start n) where
-  pub found_outside : not r ≡ true → is_inside octets start n ≡ false
-  found_outside t = sym is ∙ not-true r t
-
-  pub found_inside : not r ≡ false → is_inside octets start n ≡ true
-  found_inside t = sym is ∙ not-false r t
 
 pub inside_le : (octets start n : ℕ) → is_inside octets start n ≡ true → start + 8 * n ≤ 8 * octets
 unfolding is_inside
@@ -95,10 +119,6 @@ module _ (s : List ℕ) (start : ℕ) (out : List ℕ) (at : ℕ) where
       regroup : (p l : List ℕ) (x : ℕ) (ys : List ℕ) → (p ++ l) ++ (x ∷ ys) ≡ p ++ ((l ++ (x ∷ [])) ++ ys)
       regroup p l x ys = append_assoc p l (x ∷ ys) ∙ ap (λ (r : List ℕ). p ++ r) (sym (append_assoc l (x ∷ []) ys))
 
-  pub copied_all : (k n : ℕ) {t : List ℕ} → t ≡ Copied s start out at k → k ≡ n → t ≡ take at out ++ (string_at s start n ++ drop (at + n) out)
-  unfolding Copied
-  copied_all k n e f = rw f at e
-
   module _ (n : ℕ) where
     pub copy_outside : is_inside (length s) start n ≡ false → (false ≡ copy_fits s start n out at) × (out ≡ copy_string s start n out at)
     unfolding copy_fits copy_string
@@ -116,11 +136,25 @@ module _ (s : List ℕ) (start : ℕ) (out : List ℕ) (at : ℕ) where
 
 -- ---- a comparison
 
-module _ (s : List ℕ) (start : ℕ) (t : List ℕ) (at n : ℕ) where
-  -- what is left to compare after k octets
-  unfoldable pub Rest : ℕ → Bool
-  Rest k = same_octets (string_at s (start + 8 * k) (n - k)) (string_at t (at + 8 * k) (n - k))
+-- strings of which each octet is the same, and strings of which one is not
+same_each : (s : List ℕ) (start : ℕ) (t : List ℕ) (at n : ℕ) → ((k : ℕ) → k < n → field s (start + 8 * k) 8 ≡ field t (at + 8 * k) 8)
+    → same_octets (string_at s start n) (string_at t at n) ≡ true
+unfolding string_at same_octets
+same_each s start t at zero h = refl
+same_each s start t at (suc n) h =
+    and_true (eq-eqb (field s start 8) (field t at 8) (front_octet s start ∙ h 0 (omega arith) ∙ sym (front_octet t at)))
+    (same_each s (start + 8) t (at + 8) n (λ k j. following s start k ∙ h (suc k) (omega arith) ∙ sym (following t at k)))
 
+same_not : (s : List ℕ) (start : ℕ) (t : List ℕ) (at n k : ℕ) → k < n → (field s (start + 8 * k) 8 ≡ field t (at + 8 * k) 8 → ⊥)
+    → same_octets (string_at s start n) (string_at t at n) ≡ false
+unfolding string_at same_octets
+same_not s start t at zero k h g = absurd (omega arith)
+same_not s start t at (suc n) zero h g = and_left (same_octets (string_at s (start + 8) n) (string_at t (at + 8) n)) (ne_eqb (field s start 8) (field t at 8) (λ e. g (sym (front_octet s start) ∙ e ∙ front_octet t at)))
+same_not s start t at (suc n) (suc k) h g =
+    and_right (eqb (field s start 8) (field t at 8))
+    (same_not s (start + 8) t (at + 8) n k (omega arith) (λ e. g (sym (following s start k) ∙ e ∙ following t at k)))
+
+module _ (s : List ℕ) (start : ℕ) (t : List ℕ) (at n : ℕ) where
   pub outside_first : is_inside (length s) start n ≡ false → false ≡ same_string s start t at n
   unfolding same_string
   outside_first h = simp h
@@ -130,51 +164,25 @@ module _ (s : List ℕ) (start : ℕ) (t : List ℕ) (at n : ℕ) where
     unfolding same_string
     outside_second h = simp (here, h)
 
-    pub rest_all : is_inside (length t) at n ≡ true → same_string s start t at n ≡ Rest 0
-    unfolding same_string Rest
-    rest_all there =
-        let a : start ≡ start + 8 * 0 = omega arith in
-        let b : at ≡ at + 8 * 0 = omega arith in
-        let c : n ≡ n - 0 = omega arith in
-        simp (here, there)
-        (ap (λ (i : ℕ). same_octets (string_at s i n) (string_at t at n)) a ∙ ap (λ (i : ℕ). same_octets (string_at s (start + 8 * 0) n) (string_at t i n)) b
-        ∙ ap (λ (i : ℕ). same_octets (string_at s (start + 8 * 0) i) (string_at t (at + 8 * 0) i)) c)
-
-  rest_more : (k : ℕ) → k < n → Rest k ≡ (eqb (field s (start + 8 * k) 8) (field t (at + 8 * k) 8) && Rest (k + 1))
-  unfolding Rest string_at same_octets
-  rest_more k h =
-      let m : n - k ≡ suc (n - (k + 1)) = omega arith in
-      let a : start + 8 * k + 8 ≡ start + 8 * (k + 1) = omega arith in
-      let b : at + 8 * k + 8 ≡ at + 8 * (k + 1) = omega arith in
-      ap (λ (i : ℕ). same_octets (string_at s (start + 8 * k) i) (string_at t (at + 8 * k) i)) m
-      ∙ ap (λ (i : ℕ). eqb (field s (start + 8 * k) 8) (field t (at + 8 * k) 8) && same_octets (string_at s i (n - (k + 1))) (string_at t (at + 8 * k + 8) (n - (k + 1)))) a
-      ∙ ap (λ (i : ℕ). eqb (field s (start + 8 * k) 8) (field t (at + 8 * k) 8) && same_octets (string_at s (start + 8 * (k + 1)) (n - (k + 1))) (string_at t i (n - (k + 1)))) b
-
-  module _ (k : ℕ) {x y : ℕ} (h : k < n) (e : x ≡ field s (start + 8 * k) 8) (f : y ≡ field t (at + 8 * k) 8) where
-    pub rest_same : x ≡ y → Rest k ≡ Rest (k + 1)
-    rest_same g =
-        rest_more k h ∙ ap (λ (b : Bool). b && Rest (k + 1)) (eq-eqb (field s (start + 8 * k) 8) (field t (at + 8 * k) 8) (sym e ∙ g ∙ f))
-
-    pub rest_other : (x ≡ y → ⊥) → Rest k ≡ false
-    rest_other g =
-        rest_more k h ∙ ap (λ (b : Bool). b && Rest (k + 1)) (ne_eqb (field s (start + 8 * k) 8) (field t (at + 8 * k) 8) (λ i. g (e ∙ i ∙ sym f)))
-
-  pub rest_none : (k : ℕ) → k ≡ n → Rest k ≡ true
-  unfolding Rest string_at same_octets
-  rest_none k e =
-      let m : n - k ≡ 0 = omega arith in
-      rw m refl
+    -- what the test of each octet in turn tells
+    pub same_decided : is_inside (length t) at n ≡ true → {r : Bool}
+        → MatchBool r (AllWithin (λ k. octet_at s start k ≡ octet_at t at k) (range_with_len 0 n) 0 (length (range_with_len 0 n)))
+        ((k : ℕ) × (k < length (range_with_len 0 n)) × HoldsAt (λ k. octet_at s start k ≡ octet_at t at k → ⊥) (range_with_len 0 n) k)
+        → r ≡ same_string s start t at n
+    unfolding same_string
+    same_decided there {r = true} f =
+        simp (here, there) (sym (same_each s start t at n (λ k h. sym (octet_is s start k) ∙ each_below n (λ i. octet_at s start i ≡ octet_at t at i) f k h ∙ octet_is t at k)))
+    same_decided there {r = false} f =
+        let g = one_below n (λ i. octet_at s start i ≡ octet_at t at i → ⊥) f in
+        simp (here, there) (sym (same_not s start t at n g.0 g.1.0 (λ e. g.1.1 (octet_is s start g.0 ∙ e ∙ sym (octet_is t at g.0)))))
 
 -- ---- first bits
 
 module _ (s : List ℕ) (start : ℕ) where
-  pub clear_none : each_first_bit_clear s start 0 ≡ true
+  clear_each : (n : ℕ) → ((k : ℕ) → k < n → field s (start + 8 * k) 8 < 128) → each_first_bit_clear s start n ≡ true
   unfolding each_first_bit_clear
-  clear_none = refl
-
-  pub clear_more : (k : ℕ) {x : ℕ} → each_first_bit_clear s start k ≡ true → x ≡ field s (start + 8 * k) 8 → x < 128 → each_first_bit_clear s start (k + 1) ≡ true
-  unfolding each_first_bit_clear
-  clear_more k e f h = rw add-one (and_true e (lt-ltb (field s (start + 8 * k) 8) 128 (omega arith)))
+  clear_each zero h = refl
+  clear_each (suc n) h = and_true (clear_each n (λ k j. h k (omega arith))) (lt-ltb (field s (start + 8 * n) 8) 128 (h n (omega arith)))
 
   -- one octet that is not so decides for all
   clear_not : (n k : ℕ) → k < n → 127 < field s (start + 8 * k) 8 → each_first_bit_clear s start n ≡ false
@@ -190,13 +198,16 @@ module _ (s : List ℕ) (start : ℕ) where
     unfolding first_bits_clear
     clear_outside h = simp h
 
-    pub clear_other : (k : ℕ) {x : ℕ} → k < n → x ≡ field s (start + 8 * k) 8 → 127 < x → false ≡ first_bits_clear s start n
+    pub clear_decided : is_inside (length s) start n ≡ true → {r : Bool}
+        → MatchBool r (AllWithin (λ k. octet_at s start k < 128) (range_with_len 0 n) 0 (length (range_with_len 0 n)))
+        ((k : ℕ) × (k < length (range_with_len 0 n)) × HoldsAt (λ k. 128 ≤ octet_at s start k) (range_with_len 0 n) k)
+        → r ≡ first_bits_clear s start n
     unfolding first_bits_clear
-    clear_other k h e g = sym (and_right (is_inside (length s) start n) (clear_not n k h (omega arith)))
-
-    pub clear_whole : {k : ℕ} → is_inside (length s) start n ≡ true → each_first_bit_clear s start k ≡ true → k ≡ n → true ≡ first_bits_clear s start n
-    unfolding first_bits_clear
-    clear_whole here e f = sym (and_true here (rw f at e))
+    clear_decided here {r = true} f =
+        sym (and_true here (clear_each n (λ k h. omega (arith, octet_is s start k, each_below n (λ i. octet_at s start i < 128) f k h))))
+    clear_decided here {r = false} f =
+        let g = one_below n (λ i. 128 ≤ octet_at s start i) f in
+        sym (and_right (is_inside (length s) start n) (clear_not n g.0 g.1.0 (omega (arith, octet_is s start g.0, g.1.1))))
 
 -- ---- a write
 

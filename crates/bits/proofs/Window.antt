@@ -154,9 +154,6 @@ mod_le n k =
 one_shifted : (k : ℕ) → k < 64 → 1 * 2 ^ k % 2 ^ 64 ≡ 2 ^ k
 one_shifted k h = shl_exact {a = 1} 1 k 64 (omega arith) (omega arith) ∙ one-mul (2 ^ k)
 
-pub low_mask_pos : (k : ℕ) → k < 64 → 1 ≤ 1 * 2 ^ k % 2 ^ 64
-low_mask_pos k h = rw (one_shifted k h) (pow_pos k)
-
 pub low_mask : (v k : ℕ) → k < 64 → bit_and v (1 * 2 ^ k % 2 ^ 64 - 1) ≡ v % 2 ^ k
 low_mask v k h = rw (one_shifted k h) (and_mask v k)
 
@@ -195,12 +192,12 @@ window_whole s first k n e f h =
 
 -- ---- a field out of a window
 
-pub field_window : (s : List ℕ) (first skip w : ℕ) {x r : ℕ} → x ≡ field s (8 * first) (8 * ((skip + w + 7) / 8))
-    → r ≡ x / 2 ^ ((skip + w + 7) / 8 * 8 - skip - w) % 2 ^ w → r ≡ field s (8 * first + skip) w
-field_window s first skip w e f =
-    let over = (skip + w + 7) / 8 * 8 - skip - w in
-    let n : 8 * ((skip + w + 7) / 8) ≡ skip + w + over = omega arith in
-    f ∙ ap (λ (y : ℕ). y / 2 ^ over % 2 ^ w) (e ∙ ap (field s (8 * first)) n) ∙ field_sub s (8 * first) skip w over
+pub field_window : (s : List ℕ) (first skip w n : ℕ) {x r : ℕ} → skip + w ≤ 8 * n → x ≡ field s (8 * first) (8 * n)
+    → r ≡ x / 2 ^ (n * 8 - skip - w) % 2 ^ w → r ≡ field s (8 * first + skip) w
+field_window s first skip w n h e f =
+    let over = n * 8 - skip - w in
+    let m : 8 * n ≡ skip + w + over = omega arith in
+    f ∙ ap (λ (y : ℕ). y / 2 ^ over % 2 ^ w) (e ∙ ap (field s (8 * first)) m) ∙ field_sub s (8 * first) skip w over
 
 -- ---- a loop that writes a window, from its last octet
 
@@ -245,11 +242,10 @@ left_none out₀ first n v out (suc k) rest l h = absurd (omega arith)
 
 -- ---- a field into a window
 
-pub field_put_in : (out : List ℕ) (first skip w v : ℕ) {x m : ℕ} {t : List ℕ} → Octets out → 8 * first + skip + w ≤ 8 * length out
-    → x ≡ field out (8 * first) (8 * ((skip + w + 7) / 8)) → m ≡ merge x w ((skip + w + 7) / 8 * 8 - skip - w) v
-    → t ≡ take first out ++ bytes ((skip + w + 7) / 8) m (drop (first + (skip + w + 7) / 8) out) → t ≡ put_bits out (8 * first + skip) (digits w v)
-field_put_in out first skip w v octs fits e f g =
-    let n = (skip + w + 7) / 8 in
+pub field_put_in : (out : List ℕ) (first skip w n v : ℕ) {x m : ℕ} {t : List ℕ} → Octets out → skip + w ≤ 8 * n → first + n ≤ length out
+    → x ≡ field out (8 * first) (8 * n) → m ≡ merge x w (n * 8 - skip - w) v
+    → t ≡ take first out ++ bytes n m (drop (first + n) out) → t ≡ put_bits out (8 * first + skip) (digits w v)
+field_put_in out first skip w n v octs wide fits e f g =
     let over = n * 8 - skip - w in
     g ∙ ap (λ (y : ℕ). take first out ++ bytes n y (drop (first + n) out)) (f ∙ ap (λ (y : ℕ). merge y w over v) e)
-    ∙ put_window_law out first skip w over n v octs (omega arith) (omega arith)
+    ∙ put_window_law out first skip w over n v octs (omega arith) fits

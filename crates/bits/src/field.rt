@@ -6,20 +6,11 @@ ghost use Rattle.bits.specs.Window.{bytes, merge};
 // The widest field: with up to seven bits in front of it, it lies in seven octets.
 pub const WIDEST: usize = 48;
 
-fn wide(x: u8) -> u64
-    ensures { (result ≡ x) × (result < 256) }
-{
-    x as u64
-}
-
 // Octet `i` of `s`, or 0 past its end.
 pub fn octet(s: &[u8], i: usize) -> u8
     ensures { result ≡ get_or s.now i 0 }
 {
-    if i < s.len() {
-        return s[i];
-    }
-    0
+    s.get(i).copied().unwrap_or(0)
 }
 
 // The `n` octets from `first` on as one number.
@@ -27,14 +18,13 @@ fn window(s: &[u8], first: usize, n: usize) -> u64
     requires { (n ≤ 7) × (first + n < 2 ^ 64) }
     ensures { (result ≡ field s.now (8 * first) (8 * n)) × (result < 2 ^ 56) }
 {
+    // One octet is the most frequent window; without a loop it is read faster.
     if n == 1 {
-        return wide(octet(s, first));
+        return u64::from(octet(s, first));
     }
-    let mut v: u64 = 0;
-    let mut k: usize = 0;
-    while k < n {
-        v = v * 256 + wide(octet(s, first + k));
-        k += 1;
+    let mut v = 0;
+    for k in 0..n {
+        v = v * 256 + u64::from(octet(s, first + k));
     }
     v
 }
@@ -52,7 +42,7 @@ pub(crate) fn field_in(s: &[u8], first: usize, skip: usize, width: usize) -> u64
     requires { (skip < 8) × (width ≤ 48) × (first + (skip + width + 7) / 8 < 2 ^ 64) }
     ensures { result ≡ field s.now (8 * first + skip) width }
 {
-    let n = (skip + width + 7) / 8;
+    let n = (skip + width).div_ceil(8);
     let over = n * 8 - skip - width;
     low(window(s, first, n) >> over, width)
 }
@@ -64,10 +54,9 @@ pub fn read_field(s: &[u8], at: usize, width: usize) -> u64
     if WIDEST < width {
         return 0;
     }
-    if width == 8 {
-        if at % 8 == 0 {
-            return wide(octet(s, at / 8));
-        }
+    // Whole octets are read without a window, for speed.
+    if width == 8 && at % 8 == 0 {
+        return u64::from(octet(s, at / 8));
     }
     field_in(s, at / 8, at % 8, width)
 }
@@ -85,14 +74,13 @@ fn put_window(out: &mut [u8], first: usize, n: usize, v: u64)
     requires { first + n ≤ length out.old }
     ensures { out.new ≡ take first out.old ++ bytes n v (drop (first + n) out.old) }
 {
+    // One octet is the most frequent window; without a loop it is written faster.
     if n == 1 {
         out[first] = (v % 256) as u8;
         return;
     }
     let mut rest = v;
-    let mut k = n;
-    while 0 < k {
-        k -= 1;
+    for k in (0..n).rev() {
         out[first + k] = (rest % 256) as u8;
         rest /= 256;
     }
@@ -103,7 +91,7 @@ pub(crate) fn put_field(out: &mut [u8], first: usize, skip: usize, width: usize,
     requires { (skip < 8) × (width ≤ 48) × (8 * first + skip + width ≤ 8 * length out.old) }
     ensures { out.new ≡ put_bits out.old (8 * first + skip) (digits width v) }
 {
-    let n = (skip + width + 7) / 8;
+    let n = (skip + width).div_ceil(8);
     let over = n * 8 - skip - width;
     let whole = window(out, first, n);
     put_window(out, first, n, merged(whole, width, over, v));
@@ -118,16 +106,15 @@ pub fn write_field(out: &mut [u8], at: usize, width: usize, v: u64) -> bool
     }
     let first = at / 8;
     let skip = at % 8;
-    if width == 8 {
-        if skip == 0 {
-            if out.len() <= first {
-                return false;
-            }
-            out[first] = (v % 256) as u8;
-            return true;
+    // Whole octets are written without a window, for speed.
+    if width == 8 && skip == 0 {
+        if out.len() <= first {
+            return false;
         }
+        out[first] = (v % 256) as u8;
+        return true;
     }
-    if out.len() < first + (skip + width + 7) / 8 {
+    if out.len() < first + (skip + width).div_ceil(8) {
         return false;
     }
     put_field(out, first, skip, width, v);

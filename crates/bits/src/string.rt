@@ -9,11 +9,8 @@ use crate::field::{field_in, put_field};
 pub fn inside(octets: usize, start: usize, n: usize) -> bool
     ensures { result ≡ is_inside octets start n }
 {
-    let first = start / 8 + (start % 8 + 7) / 8;
-    if octets < first {
-        return false;
-    }
-    n <= octets - first
+    let first = start.div_ceil(8);
+    first <= octets && n <= octets - first
 }
 
 // Octet `k` of the string of which octet 0 starts `skip` bits into octet `first`.
@@ -29,11 +26,7 @@ fn copy_octets(s: &[u8], first: usize, n: usize, out: &mut [u8], at: usize)
     requires { (first + n ≤ length s.now) × (at + n ≤ length out.old) }
     ensures { out.new ≡ take at out.old ++ (string_at s.now (8 * first) n ++ drop (at + n) out.old) }
 {
-    let mut k: usize = 0;
-    while k < n {
-        out[at + k] = s[first + k];
-        k += 1;
-    }
+    out[at..at + n].copy_from_slice(&s[first..first + n]);
 }
 
 // Whether the `n` octets from octet `first` of `s` on are those from octet `other` of `t` on. It goes to the end, so that it compares many at once.
@@ -41,26 +34,14 @@ fn same_octets(s: &[u8], first: usize, t: &[u8], other: usize, n: usize) -> bool
     requires { (first + n ≤ length s.now) × (other + n ≤ length t.now) }
     ensures { result ≡ same_octets (string_at s.now (8 * first) n) (string_at t.now (8 * other) n) }
 {
-    let mut same = true;
-    let mut k: usize = 0;
-    while k < n {
-        same = same & (s[first + k] == t[other + k]);
-        k += 1;
-    }
-    same
+    s[first..first + n] == t[other..other + n]
 }
 
 // Copies the `n` octets from bit place `start` of `s` to `out` from octet `at` on. False, and nothing copied, where either part is not inside.
 pub fn copy_string(s: &[u8], start: usize, n: usize, out: &mut [u8], at: usize) -> bool
     ensures { (result ≡ copy_fits s.now start n out.old at) × (out.new ≡ copy_string s.now start n out.old at) }
 {
-    if !inside(s.len(), start, n) {
-        return false;
-    }
-    if out.len() < n {
-        return false;
-    }
-    if out.len() - n < at {
+    if !inside(s.len(), start, n) || out.len() < n || out.len() - n < at {
         return false;
     }
     let first = start / 8;
@@ -69,10 +50,8 @@ pub fn copy_string(s: &[u8], start: usize, n: usize, out: &mut [u8], at: usize) 
         copy_octets(s, first, n, out, at);
         return true;
     }
-    let mut k: usize = 0;
-    while k < n {
+    for k in 0..n {
         out[at + k] = string_octet(s, first, skip, k);
-        k += 1;
     }
     true
 }
@@ -81,46 +60,33 @@ pub fn copy_string(s: &[u8], start: usize, n: usize, out: &mut [u8], at: usize) 
 pub fn same_string(s: &[u8], start: usize, t: &[u8], at: usize, n: usize) -> bool
     ensures { result ≡ same_string s.now start t.now at n }
 {
-    if !inside(s.len(), start, n) {
-        return false;
-    }
-    if !inside(t.len(), at, n) {
+    if !inside(s.len(), start, n) || !inside(t.len(), at, n) {
         return false;
     }
     if start % 8 + at % 8 == 0 {
         return same_octets(s, start / 8, t, at / 8, n);
     }
-    let mut k: usize = 0;
-    while k < n {
+    (0..n).all(|k| {
         let a = string_octet(s, start / 8, start % 8, k);
         let b = string_octet(t, at / 8, at % 8, k);
-        if a != b {
-            return false;
-        }
-        k += 1;
-    }
-    true
+        a == b
+    })
 }
 
 // Writes the `n` octets from bit place `start` of `s` to `out` from bit place `at` on. False, and nothing written, where either part is not inside.
 pub fn write_string(s: &[u8], start: usize, n: usize, out: &mut [u8], at: usize) -> bool
     ensures { (result ≡ write_fits s.now start n out.old at) × (out.new ≡ write_string s.now start n out.old at) }
 {
-    if !inside(s.len(), start, n) {
-        return false;
-    }
-    if !inside(out.len(), at, n) {
+    if !inside(s.len(), start, n) || !inside(out.len(), at, n) {
         return false;
     }
     if start % 8 + at % 8 == 0 {
         copy_octets(s, start / 8, n, out, at / 8);
         return true;
     }
-    let mut k: usize = 0;
-    while k < n {
+    for k in 0..n {
         let o = string_octet(s, start / 8, start % 8, k);
-        put_field(out, at / 8 + k, at % 8, 8, o as u64);
-        k += 1;
+        put_field(out, at / 8 + k, at % 8, 8, u64::from(o));
     }
     true
 }
@@ -129,15 +95,5 @@ pub fn write_string(s: &[u8], start: usize, n: usize, out: &mut [u8], at: usize)
 pub fn first_bits_clear(s: &[u8], start: usize, n: usize) -> bool
     ensures { result ≡ first_bits_clear s.now start n }
 {
-    if !inside(s.len(), start, n) {
-        return false;
-    }
-    let mut k: usize = 0;
-    while k < n {
-        if 127 < string_octet(s, start / 8, start % 8, k) {
-            return false;
-        }
-        k += 1;
-    }
-    true
+    inside(s.len(), start, n) && (0..n).all(|k| string_octet(s, start / 8, start % 8, k) < 128)
 }

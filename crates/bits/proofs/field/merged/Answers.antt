@@ -1,12 +1,8 @@
 -- `bits::field::merged` meets its contract: nothing wraps, as 56 bits stay below 2^64. Assumes nothing.
 use native.Mathlib.Omega.{arith}
-use Prim.Native.Nat.{◌+◌}
 use Rattle.bits.specs.Window.{merge}
 use Rattle.bits.proofs.Window.{mod_le, shifted}
 use Rattle.bits.proofs.field.merged.Goals as goal
-
-pub overflow_sub-result : goal.overflow_sub-result
-overflow_sub-result c = omega (arith, mod_le c.args.whole (c.args.width + c.args.over))
 
 pub overflow_add-result : goal.overflow_add-result
 overflow_add-result c =

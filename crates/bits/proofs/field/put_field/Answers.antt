@@ -6,4 +6,4 @@ use Rattle.bits.proofs.field.put_field.Goals as goal
 
 pub returns : goal.returns
 returns c =
-    field_put_in c.args.out.now _ _ _ _ (octets_known _ c.slice_known-1.given) (omega arith) c.window-whole.ensures.0 c.merged.ensures c.put_window.ensures
+    field_put_in _ _ _ _ _ _ (octets_known c.args.out.now c.slice_known-1.given) (omega arith) (omega arith) c.window-whole.ensures.0 c.merged.ensures c.put_window.ensures

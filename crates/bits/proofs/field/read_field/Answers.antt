@@ -9,7 +9,7 @@ pub returns-then-width-gt-WIDEST : goal.returns-then-width-gt-WIDEST
 returns-then-width-gt-WIDEST c = read_wide _ _ _ (omega arith)
 
 pub returns-then-at-eq0 : goal.returns-then-at-eq0
-returns-then-at-eq0 c = read_octet _ _ _ (omega arith) (omega arith) (c.wide.ensures.0 ∙ c.octet.ensures) c.wide.ensures.1
+returns-then-at-eq0 c = read_octet _ _ _ (omega arith) (omega arith) (c.from.ensures ∙ c.octet.ensures) (omega arith)
 
 pub returns : goal.returns
 returns c = read_narrow _ _ _ (omega arith) c.field_in.ensures

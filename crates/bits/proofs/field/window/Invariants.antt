@@ -1,11 +1,8 @@
 -- `bits::field::window` meets its contract. The invariant: v is the number of the first k octets. Assumes nothing.
-use Prim.Native.Nat.{◌≤◌, ◌*◌, ◌-◌}
+use Prim.Native.Nat.{◌*◌}
 use mathlib.Core.Path.{◌≡◌}
 use Rattle.bits.specs.Bits.{field}
 use Rattle.bits.proofs.field.window.Given as goal
 
 abbrev pub invariant-loop-k : goal.invariant-loop-k
-invariant-loop-k l = (l.k ≤ l.n) × (l.v ≡ field l.s (8 * l.first) (8 * l.k))
-
-abbrev pub decreases-loop-k : goal.decreases-loop-k
-decreases-loop-k l = l.n - l.k
+invariant-loop-k l = l.v ≡ field l.s (8 * l.first) (8 * l.k)

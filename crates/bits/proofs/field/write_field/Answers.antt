@@ -1,6 +1,5 @@
 -- `bits::field::write_field` meets its contract: it writes where the octets that hold the field are there. Assumes nothing.
 use native.Mathlib.Omega.{arith}
-use lib.ListN.{length-set}
 use Rattle.bits.proofs.Laws.{octets_known}
 use Rattle.bits.proofs.Outcomes.{write_wide, write_short, write_whole}
 use Rattle.bits.proofs.Aligned.{write_octet}
@@ -11,9 +10,6 @@ returns-then-width-gt-WIDEST c = write_wide _ _ _ _ (omega arith)
 
 pub returns-then-out-first : goal.returns-then-out-first
 returns-then-out-first c = write_short _ _ _ _ (omega arith) (omega arith)
-
-pub shape_of-out-then-skip-eq0 : goal.shape_of-out-then-skip-eq0
-shape_of-out-then-skip-eq0 c = simp length-set
 
 pub returns-then-skip-eq0 : goal.returns-then-skip-eq0
 returns-then-skip-eq0 c =
