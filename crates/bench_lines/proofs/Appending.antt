@@ -9,21 +9,22 @@ use lib.Dec.{leb}
 use lib.ListN.{length, get_or, take, drop, set, length-append, length-drop}
 use lib.Seq.{length-take-le, take-length, take_at, drop_at, drop-drop, drop-cons, set_at}
 use borrow.Author.Tests.{lt-leb, leb-true, not-true, not-false}
-use Rattle.refusals.specs.Check.{accepted}
+use Rattle.refusals.specs.Check.{Answer, refused, accepted}
 use Rattle.refusals.proofs.Tests.{leb_same}
+use borrow.Rule.Slice.PartMut.{put_mid}
+use Rattle.std.proofs.lemmas.Slice.{put_mid-paste}
 use Rattle.bench_lines.specs.Numerals.{digits_before, width, decimal_before}
-use Rattle.bench_lines.specs.Inside.{copied, Placed}
-use Rattle.bench_lines.specs.Text.{number_text, named_text, held_word, whole_word, refused_word, answer_text, answer_line_text, totals_text, written, has_room, append_text, appended_answer, output_after}
+use Rattle.bench_lines.specs.Inside.{Placed}
+use Rattle.bench_lines.specs.Text.{number_text, named_text, held_word, whole_word, refused_word, answer_text, answer_line_text, totals_text, written, has_room, append_text, output_after}
 use Rattle.bench_lines.specs.declared.BenchAnswer.{BenchAnswer}
 use Rattle.bench_lines.specs.declared.BenchAnswer.TheVariants as answer
 use Rattle.bench_lines.specs.declared.Totals.{Totals}
-use Rattle.bench_lines.specs.declared.Appended.TheVariants as appended
 use Rattle.bench_lines.proofs.Decimal.{digits_append, length_digits}
 
 module _ (room at octets : ℕ) where
-  pub too_long : room < octets → false ≡ has_room room at octets
+  pub too_long : room < octets → leb octets room ≡ has_room room at octets
   unfolding has_room
-  too_long h = sym (lt-leb (at + octets) room (omega arith))
+  too_long h = simp (lt-leb octets room h, lt-leb (at + octets) room (omega arith))
 
   pub starts_inside : octets ≤ room → leb at (room - octets) ≡ has_room room at octets
   unfolding has_room
@@ -63,9 +64,12 @@ module _ (out : List ℕ) (at : ℕ) (text : List ℕ) where
 
 -- ---- a word, a number
 
-pub word_placed : (out : List ℕ) (at : ℕ) (s : List ℕ) {e : List ℕ} → e ≡ copied out at s (length s) → Placed out at s e (at + length s)
-unfolding copied written
-word_placed out at s p = record { place = refl; octets = p ∙ rw take-length (append_assoc (take at out) s (drop (at + length s) out)) }
+pub word_placed : (out : List ℕ) (at : ℕ) (s : List ℕ) {part : List ℕ} {k : ℕ} → part ≡ s → length s ≡ k → Placed out at s (put_mid at k out part) (at + length s)
+unfolding written
+word_placed out at s {part} {k} p q = record {
+  place = refl;
+  octets = put_mid-paste at k out part s (length s) p q refl ∙ rw take-length (append_assoc (take at out) s (drop (at + length s) out));
+}
 
 pub length_number : (n end : ℕ) → length (number_text n end) ≡ width n + 1
 unfolding number_text decimal_before
@@ -149,13 +153,13 @@ module _ (out : List ℕ) (at : ℕ) (text : List ℕ) {r : Bool} {n : ℕ} (is 
   room_is : {b : Bool} → r ≡ b → has_room (length out) at (length text) ≡ b
   room_is e = rw (← l) (sym is ∙ e)
 
-  pub no_room : not r ≡ true → (appended_answer (appended.Refused 22) ≡ append_text out at text) × (out ≡ output_after (appended_answer (appended.Refused 22)) out at text)
-  unfolding appended_answer append_text output_after
+  pub no_room : not r ≡ true → (◌≡◌ {A = Answer ℕ} (refused 22) (append_text out at text)) × (out ≡ output_after (refused 22) out at text)
+  unfolding append_text output_after
   no_room t = (simp (room_is (not-true r t)), refl)
 
   pub room_for : {after : List ℕ} {next : ℕ} → not r ≡ false → Placed out at text after next
-      → (appended_answer (appended.Next next) ≡ append_text out at text) × (after ≡ output_after (appended_answer (appended.Next next)) out at text)
-  unfolding appended_answer append_text output_after
+      → (accepted next ≡ append_text out at text) × (after ≡ output_after (accepted next) out at text)
+  unfolding append_text output_after
   room_for t p = (ap accepted p.place ∙ simp (room_is (not-false r t)), p.octets)
 
 -- ---- four texts one behind the other
@@ -179,7 +183,7 @@ module _ (out : List ℕ) (at : ℕ) (a b c d : List ℕ) (fits : at + length (a
 module _ (out : List ℕ) (at : ℕ) (a b c d : List ℕ) {r : Bool} {n : ℕ} (is : r ≡ has_room (length out) at n) (l : n ≡ length (a ++ (b ++ (c ++ d)))) (t : not r ≡ false) where
   pub four_appended : {x y z after : List ℕ} {i j k next : ℕ}
       → Placed out at a x i → Placed x i b y j → Placed y j c z k → Placed z k d after next
-      → (appended_answer (appended.Next next) ≡ append_text out at (a ++ (b ++ (c ++ d)))) × (after ≡ output_after (appended_answer (appended.Next next)) out at (a ++ (b ++ (c ++ d))))
+      → (accepted next ≡ append_text out at (a ++ (b ++ (c ++ d)))) × (after ≡ output_after (accepted next) out at (a ++ (b ++ (c ++ d))))
   four_appended p q u s =
       let fits : at + length (a ++ (b ++ (c ++ d))) ≤ length out = rw l at (room_found (length out) at n is t) in
       room_for out at (a ++ (b ++ (c ++ d))) is l t (four_placed out at a b c d fits p q u s)

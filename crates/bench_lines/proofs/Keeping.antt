@@ -1,12 +1,13 @@
 -- Laws of keeping a part of a line, one for each way out.
 -- Assumes nothing.
 use mathlib.Core.Path.{◌≡◌, refl, ap, sym, ◌∙◌}
-use Prim.Native.Nat.{ℕ, ◌+◌, ◌-◌, ◌≤◌, ◌<◌}
+use Prim.Native.Nat.{ℕ, ◌+◌, ◌-◌, ◌≤◌, ◌<◌, min}
 use mathlib.Core.List.{List, ◌++◌, append-nil}
 use native.Mathlib.Omega.{arith}
 use lib.ListN.{length, take, length-append, length-take}
 use lib.Seq.{take_all, take-length, drop-length, length-take-le, take-append_seam, take-append-add}
-use Rattle.bench_lines.specs.Inside.{copied}
+use borrow.Rule.Slice.PartMut.{put_mid}
+use Rattle.std.proofs.lemmas.Slice.{put_mid-paste}
 use Rattle.bench_lines.specs.Splitting.{kept_line, buffer_after}
 
 module _ (buffer : List ℕ) (held : ℕ) (part : List ℕ) where
@@ -21,39 +22,21 @@ module _ (buffer : List ℕ) (held : ℕ) (part : List ℕ) where
       same : buffer ≡ buffer_after buffer buffer
       same = sym (rw drop-length (append-nil buffer))
 
-  -- the part's first n octets behind those held
-  kept : (n : ℕ) {after : List ℕ} → n ≤ length part → held + n ≤ length buffer → kept_line buffer held part ≡ take held buffer ++ take n part
-      → after ≡ copied buffer held part n
-      → (held + n ≡ length (kept_line buffer held part)) × (after ≡ buffer_after (kept_line buffer held part) buffer)
-  unfolding copied buffer_after
-  kept n i j e p =
-      let l : length (take held buffer ++ take n part) ≡ held + n =
-      omega (arith, length-append (take held buffer) (take n part), length-take-le held buffer (omega arith), length-take-le n part i) in
-      rw (e, l) (refl, p)
-
-  pub part_kept : {after : List ℕ} → held ≤ length buffer → length buffer - held < length part → after ≡ copied buffer held part (length buffer - held)
-      → (length buffer ≡ length (kept_line buffer held part)) × (after ≡ buffer_after (kept_line buffer held part) buffer)
-  unfolding kept_line
-  part_kept h k p =
-      let n = length buffer - held in
-      let m : held + n ≡ length buffer = omega arith in
-      rw m at (kept n (omega arith) (omega arith) cut p)
+  -- the part's first n octets behind those held, which are all or as many as there is room for
+  pub part_kept : (n k : ℕ) {put : List ℕ} → held ≤ length buffer → n ≡ min (length part) (length buffer - held) → put ≡ take n part → n ≡ k
+      → (held + n ≡ length (kept_line buffer held part)) × (put_mid held k buffer put ≡ buffer_after (kept_line buffer held part) buffer)
+  unfolding kept_line buffer_after
+  part_kept n k {put} h m p q =
+      let f = length-take-le held buffer h in
+      let i : n ≤ length part = omega arith in
+      let j : held + n ≤ length buffer = omega arith in
+      let g = length-take-le n part i in
+      let e : take (length buffer) (take held buffer ++ part) ≡ take held buffer ++ take n part = cut in
+      let l : length (take held buffer ++ take n part) ≡ held + n = omega (arith, length-append (take held buffer) (take n part)) in
+      rw (e, l) (refl, put_mid-paste held k buffer put (take n part) n p q (omega arith) ∙ rw (take_all n (take n part) (omega arith)) refl)
     where
-      cut : kept_line buffer held part ≡ take held buffer ++ take (length buffer - held) part
-      cut =
-          let m : length buffer ≡ length (take held buffer) + (length buffer - held) = omega (arith, length-take-le held buffer h) in
-          ap (λ (i : ℕ). take i (take held buffer ++ part)) m ∙ take-append-add (take held buffer) part (length buffer - held)
-
-  pub whole_kept : {after : List ℕ} → held ≤ length buffer → length part ≤ length buffer - held → after ≡ copied buffer held part (length part)
-      → (held + length part ≡ length (kept_line buffer held part)) × (after ≡ buffer_after (kept_line buffer held part) buffer)
-  unfolding kept_line
-  whole_kept h k p = kept (length part) (omega arith) (omega arith) fits p
-    where
-      fits : kept_line buffer held part ≡ take held buffer ++ take (length part) part
-      fits =
-          let l : length (take held buffer ++ part) ≤ length buffer =
-          omega (arith, length-append (take held buffer) part, length-take-le held buffer h) in
-          take_all (length buffer) (take held buffer ++ part) l ∙ sym (rw take-length)
+      cut : take (length buffer) (take held buffer ++ part) ≡ take held buffer ++ take n part
+      cut = ?
 
 -- no more is kept than the buffer has room for
 pub kept_inside : (buffer : List ℕ) (held : ℕ) (part : List ℕ) {n : ℕ} → n ≡ length (kept_line buffer held part) → n ≤ length buffer

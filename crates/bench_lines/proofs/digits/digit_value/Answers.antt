@@ -1,25 +1,25 @@
--- `bench_lines::digits::digit_value` meets its contract: its tests part the characters as the definition does. Assumes nothing.
+-- `bench_lines::digits::digit_value` meets its contract, range by range. Assumes nothing.
 use native.Mathlib.Omega.{arith}
-use Rattle.bench_lines.proofs.Spelling.{value_low, value_decimal, value_middle, value_upper, value_between, value_lower, value_high}
+use Rattle.bench_lines.proofs.Spelling.{value_decimal, value_upper, value_lower, value_other}
 use Rattle.bench_lines.proofs.digits.digit_value.Goals as goal
 
-pub returns-then-x-lt48 : goal.returns-then-x-lt48
-returns-then-x-lt48 c = value_low c.wide-x.ensures.0 (omega arith)
+pub returns-in-48-to-57 : goal.returns-in-48-to-57
+returns-in-48-to-57 c = (omega (arith, value_decimal c.args.c), omega arith)
 
-pub returns-then-x-le57 : goal.returns-then-x-le57
-returns-then-x-le57 c = value_decimal c.wide-x.ensures.0 (omega arith) (omega arith)
+pub returns-in-65-to-70 : goal.returns-in-65-to-70
+returns-in-65-to-70 c = (omega (arith, value_upper c.args.c), omega arith)
 
-pub returns-then-x-lt65 : goal.returns-then-x-lt65
-returns-then-x-lt65 c = value_middle c.wide-x.ensures.0 (omega arith) (omega arith)
+pub returns-in-97-to-102 : goal.returns-in-97-to-102
+returns-in-97-to-102 c = (omega (arith, value_lower c.args.c), omega arith)
 
-pub returns-then-x-le70 : goal.returns-then-x-le70
-returns-then-x-le70 c = value_upper c.wide-x.ensures.0 (omega arith) (omega arith)
+pub returns-in_default : goal.returns-in_default
+returns-in_default c = (omega (arith, value_other c.args.c (λ h k. omega arith) (λ h k. omega arith) (λ h k. omega arith)), omega arith)
 
-pub returns-then-x-lt97 : goal.returns-then-x-lt97
-returns-then-x-lt97 c = value_between c.wide-x.ensures.0 (omega arith) (omega arith)
+pub returns-in_default-2 : goal.returns-in_default-2
+returns-in_default-2 c = (omega (arith, value_other c.args.c (λ h k. omega arith) (λ h k. omega arith) (λ h k. omega arith)), omega arith)
 
-pub returns-then-x-le102 : goal.returns-then-x-le102
-returns-then-x-le102 c = value_lower c.wide-x.ensures.0 (omega arith) (omega arith)
+pub returns-in_default-3 : goal.returns-in_default-3
+returns-in_default-3 c = (omega (arith, value_other c.args.c (λ h k. omega arith) (λ h k. omega arith) (λ h k. omega arith)), omega arith)
 
-pub returns : goal.returns
-returns c = value_high c.wide-x.ensures.0 (omega arith)
+pub returns-in_default-4 : goal.returns-in_default-4
+returns-in_default-4 c = (omega (arith, value_other c.args.c (λ h k. omega arith) (λ h k. omega arith) (λ h k. omega arith)), omega arith)

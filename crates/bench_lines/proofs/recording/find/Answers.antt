@@ -1,22 +1,19 @@
-use native.Mathlib.Omega.{arith}
-use Prim.Native.Nat.{◌-◌}
-use Rattle.bench_lines.proofs.Marks.{found, passed, none_left}
-use Rattle.bench_lines.proofs.line.find.Goals as goal
-
-pub bounds-s-i : goal.bounds-s-i
-bounds-s-i c = omega arith
-
-pub returns-then-s-i : goal.returns-then-s-i
-returns-then-s-i c = found _ _ _ c.loop-i.invariant (omega arith) c.if-s-i.true
-
-pub overflow_add-i : goal.overflow_add-i
-overflow_add-i c = omega arith
-
-pub loop-i-smaller : goal.loop-i-smaller
-loop-i-smaller c = omega arith
-
-pub loop-i-preserved : goal.loop-i-preserved
-loop-i-preserved c = passed _ _ _ c.loop-i.invariant (omega arith) c.if-s-i.false
+-- `bench_lines::recording::find` meets its contract: the definition is the place that the search finds. Assumes nothing.
+use mathlib.Core.Path.{refl, ap, ◌∙◌}
+use Prim.Native.Nat.{ℕ, ◌+◌}
+use lib.Dec.{eqb}
+use Rattle.std.proofs.Common.{rules, tests}
+use Rattle.std.proofs.lemmas.Iterator.{YieldsList-from_slice}
+use Rattle.std.proofs.lemmas.Iterator.Search.{position_from_yields_List}
+use Rattle.bench_lines.specs.Line.{before}
+use Rattle.bench_lines.proofs.Marks.{found, rest_from}
+use Rattle.bench_lines.proofs.recording.find.Goals as goal
 
 pub returns : goal.returns
-returns c = none_left _ _ _ c.loop-i.invariant (omega arith)
+returns c =
+    let rest = c.unwrap_or-rest.result.now in
+    let mark = c.args.mark in
+    ap (λ (n : ℕ). c.args.from + n)
+    (c.unwrap_or.ensures
+    ∙ found mark rest (position_from_yields_List (λ x. eqb x mark) _ _ c.position.result c.position.ensures.ran (YieldsList-from_slice rest c.iter.ensures.rest) (λ x b q k. search (rules, tests)))
+    ∙ ap (before mark) (ap (λ x. x.now) c.unwrap_or-rest.ensures ∙ rest_from _ _ _ _ refl c.get.ensures.lookup.0))

@@ -1,7 +1,7 @@
--- `bench_lines::line::has_form` meets its contract: its tests are those of the form, in their order. Assumes nothing.
+-- `bench_lines::recording::has_form` meets its contract: its tests are those of the form, in their order. Assumes nothing.
 use native.Mathlib.Omega.{arith}
 use Rattle.bench_lines.proofs.Form.{too_long, no_lid, cut_short, no_lid_digit, no_tick, no_tick_digit, tick_too_large, odd, last_digits}
-use Rattle.bench_lines.proofs.line.has_form.Goals as goal
+use Rattle.bench_lines.proofs.recording.has_form.Goals as goal
 
 pub returns-then-line-gt-LONGEST_LINE : goal.returns-then-line-gt-LONGEST_LINE
 returns-then-line-gt-LONGEST_LINE c = too_long _ (omega arith)

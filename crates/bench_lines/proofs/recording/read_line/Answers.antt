@@ -1,9 +1,9 @@
--- `bench_lines::line::read_line` meets its contract: the form tells where its fields stand, and that they fit; that a printed line reads back is a law of the definitions.
+-- `bench_lines::recording::read_line` meets its contract: the form tells where its fields stand, and that they fit; that a printed line reads back is a law of the definitions.
 -- Assumes nothing.
 use native.Mathlib.Omega.{arith}
 use Rattle.bench_lines.proofs.Reading.{not_a_line, facts, whole_octets, hex_behind, lid_is, tick_is, buffer_too_short, whole_line_law}
 use Rattle.bench_lines.proofs.RoundTrip.{reading_printed}
-use Rattle.bench_lines.proofs.line.read_line.Goals as goal
+use Rattle.bench_lines.proofs.recording.read_line.Goals as goal
 
 pub returns-then-not-has_form : goal.returns-then-not-has_form
 returns-then-not-has_form c = record { answer = not_a_line _ _ _ c.has_form.ensures c.if-not-has_form.true-raw; printed = reading_printed }

