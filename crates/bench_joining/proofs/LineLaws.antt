@@ -1,5 +1,5 @@
 -- A line joined: what its reading and the fragment call promise is what the contract of a line asks. Assumes nothing.
-use mathlib.Core.Path.{◌≡◌, sym, ap, subst, ◌∙◌}
+use mathlib.Core.Path.{◌≡◌, refl, sym, ap, subst, ◌∙◌}
 use mathlib.Core.Bool.{Bool, true, false}
 use mathlib.Core.List.{List, ◌++◌}
 use Prim.Native.Nat.{ℕ, ◌/◌}
@@ -10,26 +10,27 @@ use lib.Dec.{leb}
 use Rattle.refusals.specs.Check.{pick, Answer, refused, accepted}
 use Rattle.slots.specs.declared.Table.{Table}
 use Rattle.slots.specs.Slots.{held_for}
-use Rattle.reassembly.specs.declared.FragmentAnswer.{FragmentAnswer}
+use Rattle.std.specs.Prelude.{Result, Ok, Err}
+use Rattle.refusals.specs.declared.Refusal.{Refusal}
+use Rattle.reassembly.specs.declared.Accepted.{Accepted}
+use Rattle.reassembly.specs.Checks.{fragment_in}
 use Rattle.bench_lines.specs.Numerals.{octets_of}
-use Rattle.bench_lines.specs.Line.{Fields, lsdu_text, has_form, fields_of, read_line, line_answer, lsdu_after}
-use Rattle.bench_lines.specs.declared.LineRead.{LineRead}
-use Rattle.bench_lines.specs.declared.LineRead.TheVariants as read
+use Rattle.bench_lines.specs.Line.{Fields, lsdu_text, has_form, fields_of, read_line, line_refusal_number, line_answer, lsdu_after}
+use Rattle.bench_lines.specs.declared.Line.{Line}
+use Rattle.bench_lines.specs.declared.LineRefusal.{LineRefusal}
 use Rattle.bench_lines.proofs.Spelling.{length_octets}
 use Rattle.bench_joining.specs.declared.Columns.{Columns}
-use Rattle.bench_joining.specs.declared.Taken.{Taken}
-use Rattle.bench_joining.specs.declared.joining.Headed.{Headed}
 use Rattle.bench_joining.specs.Columns.{columns_of, refused_with}
-use Rattle.bench_joining.specs.Joined.{headed_by, columns_after, LsduJoined, LineJoined, lsdu_of, LineTaken}
+use Rattle.bench_joining.specs.Joined.{columns_after, LsduJoined, LineJoined, lsdu_of, LineTaken}
 
 -- ---- an LSDU
 
 -- what the header tells, and the octets held for its pair, make the columns
-pub shown_is : (answer : FragmentAnswer) (lid : ℕ) (lsdu : List ℕ) (after : Table) (header : Headed) (held : ℕ) (r : Columns) → header ≡ headed_by lsdu
-    → held ≡ held_for after lid header.number → r ≡ columns_of answer held header.payload → r ≡ columns_after answer lid lsdu after
-unfolding headed_by columns_after
-shown_is answer lid lsdu after header held r h e c =
-    c ∙ λ i. columns_of answer ((e ∙ ap (λ (x : Headed). held_for after lid x.number) h) i) (h i).payload
+pub shown_is : (answer : Result Accepted Refusal) (lid : ℕ) (lsdu : List ℕ) (after : Table) {number payload held : ℕ} {r : Columns}
+    → number ≡ (fragment_in lsdu).number → payload ≡ (fragment_in lsdu).octets → held ≡ held_for after lid number → r ≡ columns_of answer held payload
+    → r ≡ columns_after answer lid lsdu after
+unfolding columns_after
+shown_is answer lid lsdu after p q h e = e ∙ rw (h, p, q) refl
 
 -- ---- a line
 
@@ -50,31 +51,32 @@ front_is line room f lsdu e =
     let n : f.octets ≡ length (lsdu_text line) / 2 = ap (λ (x : Fields). x.octets) (read_fields line room f e) in
     take_at (octets_of (lsdu_text line)) (drop f.octets lsdu) f.octets (length_octets (lsdu_text line) ∙ sym n)
 
-module _ (line : List ℕ) (table : Table) (lsdu store output lsdu' store' output' : List ℕ) (r : Taken) (a : LineRead)
+module _ (line : List ℕ) (table table' : Table) (lsdu store output lsdu' store' output' : List ℕ) (r : Columns) (a : Result Line LineRefusal)
     (got : (line_answer a ≡ read_line line (length lsdu)) × (lsdu' ≡ lsdu_after (line_answer a) line lsdu)) where
-  pub line_joined : (l t n : ℕ) (part : List ℕ) → a ≡ read.Fields l t n → part ≡ take n lsdu' → LsduJoined l t part table store output r store' output'
-      → LineTaken line table lsdu store output r lsdu' store' output'
-  unfolding line_answer lsdu_after LineJoined
-  line_joined l t n part e p j =
+  pub line_joined : {l t n : ℕ} {part : List ℕ} → a ≡ Ok (record { lid = l; tick = t; octets = n }) → part ≡ take n lsdu'
+      → LsduJoined l t part table store output r table' store' output'
+      → LineTaken line table lsdu store output r table' lsdu' store' output'
+  unfolding lsdu_after LineJoined
+  line_joined {l} {t} {n} {part} e p j =
       let f : Fields = record { lid = l; tick = t; octets = n } in
       let is : accepted f ≡ read_line line (length lsdu) = sym (ap line_answer e) ∙ got.0 in
-      let buffer : lsdu' ≡ octets_of (lsdu_text line) ++ drop n lsdu = got.1 ∙ ap (λ (x : LineRead). lsdu_after (line_answer x) line lsdu) e in
+      let buffer : lsdu' ≡ octets_of (lsdu_text line) ++ drop n lsdu = got.1 ∙ ap (λ (x : Result Line LineRefusal). lsdu_after (line_answer x) line lsdu) e in
       let whole : part ≡ lsdu_of line = p ∙ ap (take n) buffer ∙ front_is line (length lsdu) f lsdu is in
       record {
         joined =
-            subst (λ (x : Answer Fields). LineJoined x (lsdu_of line) table store output r store' output') is
-            (subst (λ (x : List ℕ). LsduJoined l t x table store output r store' output') whole j);
+            subst (λ (x : Answer Fields). LineJoined x (lsdu_of line) table store output r table' store' output') is
+            (subst (λ (x : List ℕ). LsduJoined l t x table store output r table' store' output') whole j);
         lsdu_is = got.1 ∙ ap (λ (x : Answer Fields). lsdu_after x line lsdu) got.0;
       }
 
-  pub line_refused : (k : ℕ) → a ≡ read.Refused k → r.table ≡ table → r.columns ≡ refused_with k 0 → store' ≡ store → output' ≡ output
-      → LineTaken line table lsdu store output r lsdu' store' output'
-  unfolding line_answer LineJoined
-  line_refused k e t c s o =
-      let is : refused k ≡ read_line line (length lsdu) = sym (ap line_answer e) ∙ got.0 in
+  pub line_refused : (k : LineRefusal) {number : ℕ} → a ≡ Err k → number ≡ line_refusal_number k → table' ≡ table → r ≡ refused_with number 0 → store' ≡ store → output' ≡ output
+      → LineTaken line table lsdu store output r table' lsdu' store' output'
+  unfolding LineJoined
+  line_refused k e n t c s o =
+      let is : refused (line_refusal_number k) ≡ read_line line (length lsdu) = sym (ap line_answer e) ∙ got.0 in
       record {
         joined =
-            subst (λ (x : Answer Fields). LineJoined x (lsdu_of line) table store output r store' output') is
-            (record { table_is = t; columns_are = c; store_is = s; output_is = o });
+            subst (λ (x : Answer Fields). LineJoined x (lsdu_of line) table store output r table' store' output') is
+            (record { table_is = t; columns_are = rw n at c; store_is = s; output_is = o });
         lsdu_is = got.1 ∙ ap (λ (x : Answer Fields). lsdu_after x line lsdu) got.0;
       }

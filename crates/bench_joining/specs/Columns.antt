@@ -1,11 +1,13 @@
 -- What the bench shows of a fragment call's answer (01, "The bench program"): the answer, the octets now held for the pair or delivered, 0 for
 -- refusals 0 to 6, and the octets dropped; and what the answer adds to the totals.
 -- Assumes nothing.
-use Rattle.std.specs.Prelude.{ℕ, ltb}
+use Rattle.std.specs.Prelude.{ℕ, ltb, Result, Ok, Err}
 use Rattle.refusals.specs.Check.{pick}
 use Rattle.bench_lines.specs.declared.BenchAnswer.TheVariants as shown
-use Rattle.reassembly.specs.declared.FragmentAnswer.{FragmentAnswer}
-use Rattle.reassembly.specs.declared.FragmentAnswer.TheVariants as answer
+use Rattle.refusals.specs.declared.Refusal.{Refusal}
+use Rattle.refusals.specs.Refusal.{number_of}
+use Rattle.reassembly.specs.declared.Accepted.{Accepted}
+use Rattle.reassembly.specs.declared.Accepted.TheVariants as answer
 use Rattle.bench_joining.specs.declared.Columns.{Columns}
 
 -- a refusal adds nothing to the totals
@@ -17,9 +19,9 @@ unfoldable pub refused_columns : (number held : ℕ) → Columns
 refused_columns number held = pick (ltb number 7) (refused_with number 0) (refused_with number held)
 
 -- the columns of an answer, where so many octets are held for the pair after the call, and the fragment has so many of payload
-unfoldable pub columns_of : FragmentAnswer → (held payload : ℕ) → Columns
-columns_of (answer.Held octets dropped) held payload =
+unfoldable pub columns_of : Result Accepted Refusal → (held payload : ℕ) → Columns
+columns_of (Ok (answer.Held octets dropped)) held payload =
     record { answer = shown.Held; octets = octets; dropped = dropped; accepted = payload; delivered = 0 }
-columns_of (answer.Whole octets dropped) held payload =
+columns_of (Ok (answer.Whole octets dropped)) held payload =
     record { answer = shown.Whole; octets = octets; dropped = dropped; accepted = payload; delivered = octets }
-columns_of (answer.Refused number) held payload = refused_columns number held
+columns_of (Err refusal) held payload = refused_columns (number_of refusal) held

@@ -6,23 +6,15 @@ mod answers;
 mod joining;
 
 use bench_lines::BenchAnswer;
-use slots::Table;
 
 // A line's answer, its two numbers, and what it adds to the totals.
-#[derive(Clone, Copy)]
+#[derive(Clone, Copy, Debug, PartialEq, Eq)]
 pub struct Columns {
     pub answer: BenchAnswer,
     pub octets: u64,
     pub dropped: u64,
     pub accepted: u64,
     pub delivered: u64,
-}
-
-// The table after a line, and what to show of it.
-#[derive(Clone, Copy)]
-pub struct Taken {
-    pub table: Table,
-    pub columns: Columns,
 }
 
 pub use answers::no_octets;
