@@ -4,44 +4,31 @@ ghost use Rattle.slots.specs.Slots.{free, holds_pair, index_of, table_of, held_f
 
 use crate::soundness::sound;
 use crate::word::word;
-use crate::{Slot, Table, free_slot};
+use crate::{Slot, Table};
 
 // Whether the slot is busy with this pair.
 pub(crate) fn holds_pair(slot: Slot, lid: u32, number: u32) -> bool
     ensures { result ≡ holds_pair lid number slot }
 {
-    if slot.next == 0 {
-        return false;
-    }
-    if slot.lid != lid {
-        return false;
-    }
-    slot.number == number
+    slot.next != 0 && slot.lid == lid && slot.number == number
 }
 
 // The index of the pair's slot, or 8.
 pub fn find(table: Table, lid: u32, number: u8) -> usize
     ensures { result ≡ index_of lid number table.slots }
 {
-    let mut i: usize = 0;
-    while i < crate::SLOTS {
-        let slot = table.slots[i];
-        if holds_pair(slot, lid, number as u32) {
-            return i;
-        }
-        i += 1;
-    }
-    crate::SLOTS
+    table
+        .slots
+        .iter()
+        .position(|slot| holds_pair(*slot, lid, u32::from(number)))
+        .unwrap_or(crate::SLOTS)
 }
 
 // The slot at an index, or a free one past the eight.
 pub fn slot_at(table: Table, i: usize) -> Slot
     ensures { result ≡ slice_index_or table.slots i free }
 {
-    if i < crate::SLOTS {
-        return table.slots[i];
-    }
-    free_slot()
+    table.slots.get(i).copied().unwrap_or_default()
 }
 
 // The table with one slot replaced, if there is one at the index, and the word that its slots have.
@@ -60,31 +47,23 @@ pub fn with_slot(table: Table, i: usize, slot: Slot) -> Table
 pub fn held_for(table: Table, lid: u32, number: u8) -> usize
     ensures { result ≡ held_for table lid number }
 {
-    let slot = slot_at(table, find(table, lid, number));
-    slot.held as usize
+    slot_at(table, find(table, lid, number)).held as usize
 }
 
 fn held_sum(slots: [Slot; 8]) -> usize
     requires { (k : ℕ) → k < 8 → (get_or slots k free).held ≤ 512 }
     ensures { result ≡ total held_of slots }
 {
-    let mut sum: usize = 0;
-    let mut i: usize = 0;
-    while i < crate::SLOTS {
-        let slot = slots[i];
-        sum += slot.held as usize;
-        i += 1;
-    }
-    sum
+    slots.iter().map(|slot| slot.held as usize).sum()
 }
 
 // The octets that the table holds in all; 0 for a table that is not sound.
 pub fn held_in(table: Table) -> usize
     ensures { result ≡ held_in table }
 {
-    if !sound(table) {
-        return 0;
+    if sound(table) {
+        held_sum(table.slots)
+    } else {
+        0
     }
-    let slots = table.slots;
-    held_sum(slots)
 }

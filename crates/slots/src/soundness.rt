@@ -1,7 +1,7 @@
 // Whether a table is sound: its word agrees, each slot is sound by itself, and no two busy ones share LID and number.
 ghost use Rattle.std.specs.Prelude.{◌≡◌};
-ghost use Rattle.slots.specs.Slots.{lid_in_range, all_zero, busy_sound, is_sound};
-ghost use Rattle.slots.specs.Model.{sound_slot, all_sound, both_hold, distinct};
+ghost use Rattle.slots.specs.Slots.{lid_in_range, busy_sound, is_sound};
+ghost use Rattle.slots.specs.Model.{sound_slot, all_sound, both_hold, alone, distinct};
 
 use crate::lookup::holds_pair;
 use crate::word::word;
@@ -14,95 +14,56 @@ pub fn lid_in_range(lid: u32) -> bool
     lid < crate::LID_BOUND
 }
 
-fn all_zero(slot: Slot) -> bool
-    ensures { result ≡ all_zero slot }
-{
-    if slot.lid != 0 {
-        return false;
-    }
-    if slot.number != 0 {
-        return false;
-    }
-    if slot.next != 0 {
-        return false;
-    }
-    if slot.held != 0 {
-        return false;
-    }
-    slot.tick == 0
-}
-
 fn busy_sound(slot: Slot) -> bool
     ensures { result ≡ busy_sound slot }
 {
-    if slot.next < 1 {
-        return false;
-    }
-    if slot.held < slot.next {
-        return false;
-    }
-    if crate::SLOT_OCTETS < slot.held as usize {
-        return false;
-    }
-    if crate::LID_BOUND <= slot.lid {
-        return false;
-    }
-    if slot.number < crate::LOWEST_NUMBER as u32 {
-        return false;
-    }
-    slot.number <= crate::HIGHEST_NUMBER as u32
+    1 <= slot.next
+        && slot.next <= slot.held
+        && slot.held as usize <= crate::SLOT_OCTETS
+        && lid_in_range(slot.lid)
+        && u32::from(crate::LOWEST_NUMBER) <= slot.number
+        && slot.number <= u32::from(crate::HIGHEST_NUMBER)
 }
 
 fn sound_slot(slot: Slot) -> bool
     ensures { result ≡ sound_slot slot }
 {
     if slot.next != 0 {
-        return busy_sound(slot);
+        busy_sound(slot)
+    } else {
+        slot == Slot::default()
     }
-    all_zero(slot)
 }
 
 // Each slot is sound by itself.
 fn each_sound(slots: [Slot; 8]) -> bool
     ensures { result ≡ all_sound slots }
 {
-    let mut i: usize = 0;
-    while i < crate::SLOTS {
-        let slot = slots[i];
-        if !sound_slot(slot) {
-            return false;
-        }
-        i += 1;
-    }
-    true
+    slots.iter().all(|slot| sound_slot(*slot))
 }
 
 // Whether two slots are busy with the same pair.
 fn share_pair(slot: Slot, other: Slot) -> bool
     ensures { result ≡ both_hold slot other }
 {
-    if slot.next == 0 {
-        return false;
-    }
-    holds_pair(other, slot.lid, slot.number)
+    slot.next != 0 && holds_pair(other, slot.lid, slot.number)
+}
+
+// No slot of a list shares a pair with this one.
+fn is_alone(slot: Slot, slots: &[Slot]) -> bool
+    ensures { result ≡ alone slot slots.now }
+{
+    !slots.iter().any(|other| share_pair(slot, *other))
 }
 
 // No two busy slots share a pair.
 fn pairs_differ(slots: [Slot; 8]) -> bool
     ensures { result ≡ distinct slots }
 {
-    let mut i: usize = 0;
-    while i < crate::SLOTS {
-        let slot = slots[i];
-        let mut j: usize = i + 1;
-        while j < crate::SLOTS {
-            let other = slots[j];
-            if share_pair(slot, other) {
-                return false;
-            }
-            j += 1;
+    for (i, slot) in slots.iter().enumerate() {
+        if !is_alone(*slot, &slots[i + 1..]) {
+            return false;
         }
-        i += 1;
     }
     true
 }
@@ -111,12 +72,5 @@ fn pairs_differ(slots: [Slot; 8]) -> bool
 pub fn sound(table: Table) -> bool
     ensures { result ≡ is_sound table }
 {
-    let slots = table.slots;
-    if table.busy != word(slots) {
-        return false;
-    }
-    if !each_sound(slots) {
-        return false;
-    }
-    pairs_differ(slots)
+    table.busy == word(table.slots) && each_sound(table.slots) && pairs_differ(table.slots)
 }

@@ -30,14 +30,8 @@ pub(crate) fn word(slots: [Slot; 8]) -> u32
     ensures { result ≡ word_of slots }
 {
     let mut w: u32 = 0;
-    let mut i: usize = crate::SLOTS;
-    while 0 < i {
-        i -= 1;
-        let slot = slots[i];
-        w = w + w;
-        if slot.next != 0 {
-            w += 1;
-        }
+    for slot in slots.iter().rev() {
+        w = 2 * w + u32::from(slot.next != 0);
     }
     w
 }
