@@ -1,21 +1,22 @@
--- Finding a pair's slot, and sums over the slots, turn by turn.
-use Rattle.std.proofs.Common.{◌≡◌, ℕ, suc, ◌+◌, ◌<◌, ◌≤◌, Bool, true, false, List, [], ◌∷◌, ◌++◌, length, get_or, take, drop, sym, refl, ap, ◌∙◌, add-zero, add-one, arith, drop-cons, take-suc}
+-- Finding a pair's slot, and sums over the slots, as the library's iterators say them.
+use Rattle.std.proofs.Common.{◌≡◌, ℕ, suc, ◌+◌, ◌*◌, ◌<◌, ◌≤◌, Bool, true, false, not, cond, ltb, Some, None, List, [], ◌∷◌, length, get_or, refl, ap, ◌∙◌, arith}
+use borrow.Author.Tests.{ltb-false}
+use Rattle.std.specs.List.{sum_by, position_or_len}
+use Rattle.std.specs.Option.{unwrap_or}
+use Rattle.std.proofs.lemmas.List.Sums.{sum_by-cons}
 use Rattle.refusals.specs.Check.{pick}
 use Rattle.slots.specs.declared.Slot.{Slot}
 use Rattle.slots.specs.Slots.{free, holds_pair, index_of, total, held_of}
 
-module _ (lid number : ℕ) (slots : List Slot) (i : ℕ) (h : i < length slots) where
-  index_step : index_of lid number (drop i slots) ≡ pick (holds_pair lid number (get_or slots i free)) 0 (index_of lid number (drop (i + 1) slots) + 1)
-  unfolding index_of
-  index_step =
-      ap (index_of lid number) (drop-cons slots i free h)
-      ∙ ap (λ (k : ℕ). pick (holds_pair lid number (get_or slots i free)) 0 (index_of lid number (drop k slots) + 1)) (sym (add-one i))
-
-  pub index_here : holds_pair lid number (get_or slots i free) ≡ true → index_of lid number (drop i slots) ≡ 0
-  index_here e = index_step ∙ ap (λ (b : Bool). pick b 0 (index_of lid number (drop (i + 1) slots) + 1)) e
-
-  pub index_there : holds_pair lid number (get_or slots i free) ≡ false → index_of lid number (drop i slots) ≡ index_of lid number (drop (i + 1) slots) + 1
-  index_there e = index_step ∙ ap (λ (b : Bool). pick b 0 (index_of lid number (drop (i + 1) slots) + 1)) e
+pub index_is : (lid number : ℕ) (slots : List Slot) → position_or_len (holds_pair lid number) slots ≡ index_of lid number slots
+unfolding index_of
+index_is lid number [] = refl
+index_is lid number (slot ∷ slots) = go (holds_pair lid number slot) (index_is lid number slots)
+  where
+    go : (b : Bool) → position_or_len (holds_pair lid number) slots ≡ index_of lid number slots
+        → cond (not b) (1 + position_or_len (holds_pair lid number) slots) 0 ≡ pick b 0 (index_of lid number slots + 1)
+    go true e = refl
+    go false e = omega (arith, e)
 
 pub index_le : (lid number : ℕ) (slots : List Slot) → index_of lid number slots ≤ length slots
 unfolding index_of
@@ -26,19 +27,29 @@ index_le lid number (slot ∷ slots) = go (holds_pair lid number slot) (index_le
     go true h = omega arith
     go false h = omega arith
 
+-- what `position` answers over the eight slots
+pub index_or : (lid number : ℕ) (slots : List Slot) → length slots ≡ 8
+    → unwrap_or (cond (ltb (position_or_len (holds_pair lid number) slots) (length slots)) (Some (position_or_len (holds_pair lid number) slots)) None) 8 ≡ index_of lid number slots
+index_or lid number slots n = go (ltb (position_or_len (holds_pair lid number) slots) (length slots)) refl
+  where
+    go : (b : Bool) → ltb (position_or_len (holds_pair lid number) slots) (length slots) ≡ b
+        → unwrap_or (cond b (Some (position_or_len (holds_pair lid number) slots)) None) 8 ≡ index_of lid number slots
+    go true e = index_is lid number slots
+    go false e =
+        let past = ltb-false (position_or_len (holds_pair lid number) slots) (length slots) e in
+        omega (arith, index_is lid number slots, index_le lid number slots, past)
+
 -- ---- sums
 
-pub total_append : {A : Type 0} (f : A → ℕ) (xs ys : List A) → total f (xs ++ ys) ≡ total f xs + total f ys
+pub total_is : {A : Type 0} (f : A → ℕ) (xs : List A) → sum_by f xs ≡ total f xs
 unfolding total
-total_append f [] ys = omega arith
-total_append f (x ∷ xs) ys = ap (λ (n : ℕ). f x + n) (total_append f xs ys) ∙ omega arith
+total_is f [] = refl
+total_is f (x ∷ xs) = sum_by-cons f x xs ∙ ap (λ (n : ℕ). f x + n) (total_is f xs)
 
-pub total_none : {A : Type 0} (f : A → ℕ) → ◌≡◌ {A = ℕ} 0 (total f [])
+-- slots of at most 512 octets each
+pub total_small : (slots : List Slot) → ((k : ℕ) → k < length slots → (get_or slots k free).held ≤ 512) → total held_of slots ≤ 512 * length slots
 unfolding total
-total_none f = refl
-
-pub total_step : (slots : List Slot) (i : ℕ) → i < length slots → total held_of (take i slots) + (get_or slots i free).held ≡ total held_of (take (i + 1) slots)
-unfolding total
-total_step slots i h =
-    sym (ap (λ (k : ℕ). total held_of (take k slots)) (add-one i) ∙ ap (total held_of) (take-suc slots i free h)
-    ∙ total_append held_of (take i slots) (get_or slots i free ∷ []) ∙ ap (λ (k : ℕ). total held_of (take i slots) + k) (add-zero _))
+total_small [] h = omega arith
+total_small (slot ∷ slots) h =
+    let here = h 0 (omega arith) in
+    omega (arith, here, total_small slots (λ k l. h (suc k) (omega arith)))

@@ -1,7 +1,8 @@
 -- 01's soundness, which goes by the word, is what the code tests slot by slot.
-use Rattle.std.proofs.Common.{◌≡◌, ℕ, zero, suc, ◌+◌, ◌*◌, ◌/◌, ◌%◌, ◌<◌, ◌≤◌, Bool, true, false, not, ◌&&◌, eqb, leb, List, [], ◌∷◌, length, get_or, drop, sym, refl, ap, ◌∙◌, add-one, arith, drop_of_length-le, drop-cons, eq-eqb, ne_eqb, eqb-true, leb-true}
+use Rattle.std.proofs.Common.{◌≡◌, ℕ, zero, suc, ◌+◌, ◌*◌, ◌/◌, ◌%◌, ◌<◌, ◌≤◌, Bool, true, false, not, ◌&&◌, ◌||◌, eqb, leb, List, [], ◌∷◌, length, get_or, drop, sym, refl, ap, ◌∙◌, add-one, arith, drop-cons, eq-eqb, ne_eqb, eqb-true, leb-true}
 use mathlib.Core.Bool.{and_assoc}
 use borrow.Author.Tests.{eqb-false}
+use Rattle.std.specs.List.{list_all, list_any}
 use Rattle.refusals.specs.Check.{pick}
 use Rattle.slots.specs.declared.Slot.{Slot}
 use Rattle.slots.specs.declared.Table.{Table}
@@ -167,35 +168,28 @@ sound_is table =
 pub slots_small : (table : Table) → is_sound table ≡ true → (k : ℕ) → k < 8 → (get_or table.slots k free).held ≤ 512
 slots_small table h k _ = held_small (get_or table.slots k free) (sound_at table.slots k (sound_parts table h).each)
 
--- ---- the loops of the code
+-- ---- the iterators of the code
 
-module _ (slots : List Slot) (i : ℕ) (h : i < length slots) where
-  pub all_step : all_sound (drop i slots) ≡ sound_slot (get_or slots i free) && all_sound (drop (i + 1) slots)
-  unfolding all_sound
-  all_step = ap all_sound (drop-cons slots i free h) ∙ ap (λ (k : ℕ). sound_slot (get_or slots i free) && all_sound (drop k slots)) (sym (add-one i))
+pub all_is : (slots : List Slot) → list_all sound_slot slots ≡ all_sound slots
+unfolding all_sound
+all_is [] = refl
+all_is (slot ∷ slots) = ap (λ (b : Bool). sound_slot slot && b) (all_is slots)
 
-  pub distinct_step : distinct (drop i slots) ≡ alone (get_or slots i free) (drop (i + 1) slots) && distinct (drop (i + 1) slots)
-  unfolding distinct
-  distinct_step = ap distinct (drop-cons slots i free h) ∙ ap (λ (k : ℕ). alone (get_or slots i free) (drop k slots) && distinct (drop k slots)) (sym (add-one i))
-
-  pub alone_step : (slot : Slot) → alone slot (drop i slots) ≡ not (both_hold slot (get_or slots i free)) && alone slot (drop (i + 1) slots)
-  unfolding none_like
-  alone_step slot =
-      ap (alone slot) (drop-cons slots i free h) ∙ go (is_busy slot)
-      ∙ ap (λ (k : ℕ). not (both_hold slot (get_or slots i free)) && alone slot (drop k slots)) (sym (add-one i))
-    where
-      other : Slot
-      other = get_or slots i free
-
-      go : (b : Bool) → pick b (not (shares_pair slot other) && none_like slot (drop (suc i) slots)) true
-          ≡ not (b && shares_pair slot other) && pick b (none_like slot (drop (suc i) slots)) true
-      go true = refl
-      go false = refl
-
-pub alone_none : (slot : Slot) (slots : List Slot) (i : ℕ) → length slots ≤ i → alone slot (drop i slots) ≡ true
+pub alone_is : (slot : Slot) (slots : List Slot) → not (list_any (both_hold slot) slots) ≡ alone slot slots
 unfolding none_like
-alone_none slot slots i h = ap (alone slot) (drop_of_length-le slots h) ∙ go (is_busy slot)
+alone_is slot [] = go (is_busy slot)
   where
-    go : (b : Bool) → pick b true true ≡ true
+    go : (b : Bool) → true ≡ pick b true true
     go true = refl
     go false = refl
+alone_is slot (other ∷ slots) = go (is_busy slot) (shares_pair slot other) (list_any (both_hold slot) slots) (alone_is slot slots)
+  where
+    go : (b s r : Bool) → not r ≡ pick b (none_like slot slots) true → not ((b && s) || r) ≡ pick b (not s && none_like slot slots) true
+    go true true r e = refl
+    go true false r e = e
+    go false s r e = e
+
+pub distinct_step : (slots : List Slot) (i : ℕ) → i < length slots
+    → distinct (drop i slots) ≡ alone (get_or slots i free) (drop (i + 1) slots) && distinct (drop (i + 1) slots)
+unfolding distinct
+distinct_step slots i h = ap distinct (drop-cons slots i free h) ∙ ap (λ (k : ℕ). alone (get_or slots i free) (drop k slots) && distinct (drop k slots)) (sym (add-one i))

@@ -1,5 +1,5 @@
 -- Freeing the slots that a test picks, turn by turn.
-use Rattle.std.proofs.Common.{◌≡◌, ℕ, suc, ◌+◌, ◌<◌, Bool, true, false, List, [], ◌∷◌, ◌++◌, length, get_or, take, drop, set, sym, refl, ap, ◌∙◌, add-zero, le_of_lt, add-one, arith, length-take-le, drop-cons, take-suc}
+use Rattle.std.proofs.Common.{◌≡◌, ℕ, zero, suc, ◌+◌, ◌<◌, Bool, true, false, List, [], ◌∷◌, ◌++◌, length, get_or, take, drop, set, sym, refl, ap, ◌∙◌, add-zero, le_of_lt, add-one, arith, length-take-le, drop-cons, take-suc}
 use lib.Seq.{set_at, append_snoc}
 use Rattle.refusals.specs.Check.{pick}
 use Rattle.slots.specs.declared.Slot.{Slot}
@@ -30,8 +30,21 @@ pub dropped_none : (f : Slot → Bool) → ◌≡◌ {A = ℕ} 0 (dropped_by f [
 unfolding dropped_by
 dropped_none f = refl
 
+at_mid : (x : Slot) (xs ys : List Slot) (i : ℕ) → length xs ≡ i → get_or (xs ++ x ∷ ys) i free ≡ x
+at_mid x [] ys zero n = refl
+at_mid x [] ys (suc i) n = absurd (omega arith)
+at_mid x (y ∷ xs) ys zero n = absurd (omega arith)
+at_mid x (y ∷ xs) ys (suc i) n = at_mid x xs ys i (omega arith)
+
 -- one more slot is looked at
 module _ (f : Slot → Bool) (slots : List Slot) (i : ℕ) (h : i < length slots) where
+  -- the slot there is as it was
+  pub freed_here : (left : List Slot) → left ≡ freed f (take i slots) ++ drop i slots → get_or left i free ≡ get_or slots i free
+  freed_here left e =
+      let n : length (freed f (take i slots)) ≡ i = length_freed f (take i slots) ∙ length-take-le i slots (le_of_lt h) in
+      ap (λ (l : List Slot). get_or l i free) (e ∙ ap (λ (l : List Slot). freed f (take i slots) ++ l) (drop-cons slots i free h))
+      ∙ at_mid (get_or slots i free) (freed f (take i slots)) (drop (suc i) slots) i n
+
   freed_mid : freed f (take i slots) ++ pick (f (get_or slots i free)) free (get_or slots i free) ∷ drop (suc i) slots ≡ freed f (take (i + 1) slots) ++ drop (i + 1) slots
   unfolding freed
   freed_mid =

@@ -1,12 +1,18 @@
 -- The word of the slots: its bits, its ones, and the trailing zeros of its complement.
-use Rattle.std.proofs.Common.{◌≡◌, ℕ, zero, suc, ◌+◌, ◌-◌, ◌*◌, ◌/◌, ◌%◌, ◌^◌, ◌<◌, ◌≤◌, Bool, true, false, not, List, [], ◌∷◌, length, get_or, drop, sym, refl, ap, ◌∙◌, lt_of_lt_of_le, pow-suc, add-one, arith, length-drop, drop-cons, pow_mono}
+use Rattle.std.proofs.Common.{◌≡◌, ℕ, zero, suc, ◌+◌, ◌-◌, ◌*◌, ◌/◌, ◌%◌, ◌^◌, ◌<◌, ◌≤◌, Bool, true, false, not, List, [], ◌∷◌, ◌++◌, length, get_or, sym, refl, ap, ◌∙◌, lt_of_lt_of_le, pow-suc, add-one, arith, pow_mono}
+use mir.Val.{bool_byte}
 use lib.Count.{ones, ones_in, ones_step, count_trailing_zeros, under}
 use Rattle.refusals.specs.Check.{pick}
 use Rattle.slots.specs.declared.Slot.{Slot}
 use Rattle.slots.specs.Slots.{free, is_busy, bit_of, word_of, low_bit, bit_at}
 use Rattle.slots.specs.Model.{count_busy, first_free}
 
-bit_le : (b : Bool) → bit_of b ≤ 1
+-- `u32::from` of a test is its bit
+pub byte_bit : (b : Bool) → bool_byte b ≡ bit_of b
+byte_bit true = refl
+byte_bit false = refl
+
+pub bit_le : (b : Bool) → bit_of b ≤ 1
 bit_le true = omega arith
 bit_le false = omega arith
 
@@ -15,22 +21,35 @@ unfolding word_of
 word_lt [] = omega arith
 word_lt (slot ∷ slots) = omega (arith, word_lt slots, bit_le (is_busy slot), pow-suc 2 (length slots))
 
--- a word of at most eight slots is below 256
-pub word_byte : (slots : List Slot) (i : ℕ) → length slots ≡ 8 → word_of (drop i slots) < 256
-word_byte slots i n = lt_of_lt_of_le (word_lt (drop i slots)) (pow_mono {j = 8} (omega (arith, length-drop i slots)))
+-- a word of eight slots is below 256
+pub word_byte : (slots : List Slot) → length slots ≡ 8 → word_of slots < 256
+word_byte slots n = lt_of_lt_of_le (word_lt slots) (pow_mono {j = 8} (omega arith))
 
-word_step : (slots : List Slot) (i : ℕ) → i < length slots → word_of (drop i slots) ≡ bit_of (is_busy (get_or slots i free)) + 2 * word_of (drop (i + 1) slots)
-unfolding word_of
-word_step slots i h = ap word_of (drop-cons slots i free h) ∙ ap (λ (k : ℕ). bit_of (is_busy (get_or slots i free)) + 2 * word_of (drop k slots)) (sym (add-one i))
+-- the word of these slots, followed by others of the word w
+unfoldable pub word_before : List Slot → ℕ → ℕ
+word_before [] w = w
+word_before (slot ∷ slots) w = bit_of (is_busy slot) + 2 * word_before slots w
+
+pub before_none : (slots : List Slot) → word_of slots ≡ word_before slots 0
+unfolding word_of word_before
+before_none [] = refl
+before_none (slot ∷ slots) = ap (λ (w : ℕ). bit_of (is_busy slot) + 2 * w) (before_none slots)
+
+pub before_end : (slots : List Slot) (w : ℕ) → length slots ≡ 0 → word_before slots w ≡ w
+unfolding word_before
+before_end [] w e = refl
+before_end (slot ∷ slots) w e = absurd (omega arith)
+
+pub before_le : (slots : List Slot) (w : ℕ) → w ≤ word_before slots w
+unfolding word_before
+before_le [] w = omega arith
+before_le (slot ∷ slots) w = omega (arith, before_le slots w)
 
 -- one turn of the loop that makes the word, highest slot first
-pub word_turn : (slots : List Slot) (w i b : ℕ) → 0 < i → i ≤ length slots → bit_of (is_busy (get_or slots (i - 1) free)) ≡ b → w ≡ word_of (drop i slots)
-    → w + w + b ≡ word_of (drop (i - 1) slots)
-word_turn slots w i b pos le t e =
-    let same : i - 1 + 1 ≡ i = omega arith in
-    let s = word_step slots (i - 1) (omega arith) in
-    let z = ap (λ (k : ℕ). word_of (drop k slots)) same in
-    omega (arith, s, z)
+pub before_last : (slots : List Slot) (slot : Slot) (w : ℕ) → word_before (slots ++ slot ∷ []) w ≡ word_before slots (bit_of (is_busy slot) + 2 * w)
+unfolding word_before
+before_last [] slot w = refl
+before_last (other ∷ slots) slot w = ap (λ (v : ℕ). bit_of (is_busy other) + 2 * v) (before_last slots slot w)
 
 -- ---- bits and ones
 

@@ -1,6 +1,6 @@
 // Expiry and release: the slots that a test picks are freed, and their octets reported.
-ghost use Rattle.std.specs.Prelude.{◌≡◌, ℕ, ◌<◌, ◌≤◌, slice_index_or};
-ghost use Rattle.slots.specs.Slots.{free, table_of};
+ghost use Rattle.std.specs.Prelude.{◌≡◌};
+ghost use Rattle.slots.specs.Slots.{table_of};
 ghost use Rattle.slots.specs.Sweep.{age_of, aged_slot, of_lid, freed, dropped_by, ExpiryGives, ReleaseGives};
 ghost use Rattle.slots.specs.Model.{picks};
 
@@ -46,7 +46,6 @@ fn picked(sweep: Sweep, slot: Slot) -> bool
 
 // Frees the slots that the sweep picks, and counts their octets.
 fn free_picked(slots: &mut [Slot; 8], sweep: Sweep) -> usize
-    requires { (k : ℕ) → k < 8 → (slice_index_or slots.old k free).held ≤ 512 }
     ensures freed { slots.new ≡ freed (picks sweep) slots.old }
     ensures dropped { result ≡ dropped_by (picks sweep) slots.old }
 {
@@ -60,9 +59,8 @@ fn free_picked(slots: &mut [Slot; 8], sweep: Sweep) -> usize
     dropped
 }
 
-// A sweep over a sound table: the octets dropped.
+// The table after a sweep, and the octets dropped.
 fn swept(table: &mut Table, sweep: Sweep) -> usize
-    requires { (k : ℕ) → k < 8 → (slice_index_or table.old.slots k free).held ≤ 512 }
     ensures table { table.new ≡ table_of (freed (picks sweep) table.old.slots) }
     ensures dropped { result ≡ dropped_by (picks sweep) table.old.slots }
 {
