@@ -3,9 +3,9 @@
 
 #![tactic(auto)]
 
-ghost use Rattle.std.specs.Prelude.{◌≡◌, ◌+◌, ◌≤◌};
+ghost use Rattle.std.specs.Prelude.{◌≡◌, ◌+◌, ◌≤◌, ◌<◌, MatchOption, length};
 ghost use Rattle.refusals.specs.Refusal.{answer_of};
-ghost use Rattle.directory.specs.Directory.{area_octets, row_sound, each_sound, share_octet, clashes, all_apart, sound_directory, first_row, finding, lookup_row, LookedUp, knowing};
+ghost use Rattle.directory.specs.Directory.{area_octets, row_sound, each_sound, share_octet, clashes, apart_from, all_apart, sound_directory, first_row, finding, lookup_row, LookedUp, knowing};
 ghost use Rattle.directory.specs.Gathered.{no_directory, with_row, gathered, list_of};
 
 use refusals::Refusal;
@@ -36,10 +36,10 @@ pub const LARGEST_ID: u8 = 127;
 pub const LONGEST_ROW: usize = 127;
 
 const NO_ROW: Row = Row {
-    id: 0,
-    writable: false,
     start: 0,
     length: 0,
+    id: 0,
+    writable: false,
     protected: false,
 };
 
@@ -52,6 +52,7 @@ fn area_octets(row: Row, factory: usize, writable: usize) -> usize
     if row.writable { writable } else { factory }
 }
 
+#[tactic(auto, unfolding(crate::specs::Directory::row_sound))]
 fn row_sound(row: Row, factory: usize, writable: usize) -> bool
     ensures { result ≡ row_sound factory writable row }
 {
@@ -62,6 +63,7 @@ fn row_sound(row: Row, factory: usize, writable: usize) -> bool
         && row.start <= area - row.length
 }
 
+#[tactic(auto, unfolding(crate::specs::Directory::share_octet))]
 fn share_octet(a: Row, b: Row) -> bool
     ensures { result ≡ share_octet a b }
 {
@@ -75,6 +77,7 @@ fn share_octet(a: Row, b: Row) -> bool
         }
 }
 
+#[tactic(auto, unfolding(crate::specs::Directory::clashes))]
 fn clash(a: Row, b: Row) -> bool
     ensures { result ≡ clashes a b }
 {
@@ -87,29 +90,46 @@ fn each_sound(rows: &[Row], factory: usize, writable: usize) -> bool
     rows.iter().all(|row| row_sound(*row, factory, writable))
 }
 
+fn apart_from(row: Row, others: &[Row]) -> bool
+    ensures { result ≡ apart_from row others.now }
+{
+    !others.iter().any(|other| clash(row, *other))
+}
+
 // At most 32 rows, so at most 496 pairs.
+#[tactic(auto, unfolding(crate::specs::Directory::all_apart))]
 fn all_apart(rows: &[Row]) -> bool
     ensures { result ≡ all_apart rows.now }
 {
-    for (i, row) in rows.iter().enumerate() {
-        if rows.iter().skip(i + 1).any(|other| clash(*row, *other)) {
+    let mut left = rows;
+    while let Some((row, others)) = left.split_first() {
+        if !apart_from(*row, others) {
             return false;
         }
+        left = others;
     }
     true
 }
 
+#[tactic(auto, unfolding(crate::specs::Directory::sound_directory))]
 fn list_sound(rows: &[Row], factory: usize, writable: usize) -> bool
     ensures { result ≡ sound_directory factory writable rows.now }
 {
     rows.len() <= MOST_ROWS && each_sound(rows, factory, writable) && all_apart(rows)
 }
 
+// The first rows of an array, as many as the count says; none where it says more than 32.
+fn listed(rows: &[Row; 32], count: usize) -> Option<&[Row]>
+    ensures { MatchOption result (32 < count) (λ list. (length list.now ≤ 32) × (list.now ≡ list_of (record { rows = rows.now; count = count }))) }
+{
+    rows.get(..count)
+}
+
 // Whether the directory is sound for areas of so many octets (26).
 pub fn sound_in(d: Directory, factory: usize, writable: usize) -> bool
     ensures { result ≡ sound_directory factory writable (list_of d) }
 {
-    match d.rows.get(..d.count) {
+    match listed(&d.rows, d.count) {
         Some(rows) => list_sound(rows, factory, writable),
         None => false,
     }
@@ -117,7 +137,6 @@ pub fn sound_in(d: Directory, factory: usize, writable: usize) -> bool
 
 // ---- looking up
 
-// The first row with the id.
 fn first_row(rows: &[Row], id: u16) -> Option<Row>
     ensures { result ≡ first_row rows.now id }
 {
@@ -128,12 +147,12 @@ fn first_row(rows: &[Row], id: u16) -> Option<Row>
 pub fn find(d: Directory, id: u16) -> Option<Row>
     ensures { result ≡ finding (list_of d) id }
 {
-    first_row(d.rows.get(..d.count)?, id)
+    first_row(listed(&d.rows, d.count)?, id)
 }
 
-// The row whose part lookup gives.
 fn row_in(rows: &[Row], factory: usize, writable: usize, id: u8) -> Row
-    ensures { (result ≡ lookup_row factory writable rows.now id) × (result.start + result.length ≤ area_octets factory writable result) }
+    ensures row { result ≡ lookup_row factory writable rows.now id }
+    ensures inside { result.start + result.length ≤ area_octets factory writable result }
 {
     if !list_sound(rows, factory, writable) {
         return NO_ROW;
@@ -145,7 +164,7 @@ fn row_in(rows: &[Row], factory: usize, writable: usize, id: u8) -> Row
 pub fn row_for(d: Directory, factory: usize, writable: usize, id: u8) -> Row
     ensures { (result ≡ lookup_row factory writable (list_of d) id) × (result.start + result.length ≤ area_octets factory writable result) }
 {
-    match d.rows.get(..d.count) {
+    match listed(&d.rows, d.count) {
         Some(rows) => row_in(rows, factory, writable, id),
         None => NO_ROW,
     }
@@ -163,6 +182,7 @@ pub fn empty() -> Directory
 }
 
 // The directory with one row more; where it holds 32 already, its count is 33 and its rows stay.
+#[tactic(auto, unfolding(crate::specs::Gathered::with_row))]
 pub fn with_row(mut d: Directory, row: Row) -> Directory
     ensures { result ≡ with_row d row }
 {
@@ -175,15 +195,17 @@ pub fn with_row(mut d: Directory, row: Row) -> Directory
     d
 }
 
-// The lent rows, by value. Each is stored in place: a call of with_row would copy the directory for every row.
+// The lent rows, by value.
 pub fn gather(rows: &[Row]) -> Directory
     ensures { result ≡ gathered rows.now }
 {
     let kept = rows.len().min(MOST_ROWS);
-    let mut d = empty();
-    d.rows[..kept].copy_from_slice(&rows[..kept]);
-    d.count = rows.len().min(MOST_ROWS + 1);
-    d
+    let mut list = [NO_ROW; 32];
+    list[..kept].copy_from_slice(&rows[..kept]);
+    Directory {
+        rows: list,
+        count: rows.len().min(MOST_ROWS + 1),
+    }
 }
 
 // The attribute's part of the factory area or of the writable area itself; for an unknown id, or a directory that is not sound, the empty part
@@ -218,7 +240,7 @@ pub fn lookup_among<'a>(
 ) -> &'a [u8]
     ensures { LookedUp (list_of (record { rows = rows; count = count })) factory.entry writable.entry id result }
 {
-    match rows.get(..count) {
+    match listed(&rows, count) {
         Some(rows) => lookup(rows, factory, writable, id),
         None => &factory[..0],
     }
@@ -234,6 +256,8 @@ pub fn knows_among(
 ) -> Result<bool, Refusal>
     ensures { answer_of result ≡ knowing factory writable (list_of (record { rows = rows; count = count })) id }
 {
-    let rows = rows.get(..count).ok_or(Refusal::ListNotSound)?;
-    knows(rows, factory, writable, id)
+    match listed(&rows, count) {
+        Some(rows) => knows(rows, factory, writable, id),
+        None => Err(Refusal::ListNotSound),
+    }
 }
