@@ -1,14 +1,14 @@
 -- Laws of appending text to a buffer: what has room, and texts appended one behind the other.
 -- Assumes nothing.
 use mathlib.Core.Path.{◌≡◌, refl, ap, sym, ◌∙◌}
-use mathlib.Core.Bool.{Bool, true, false, not}
+use mathlib.Core.Bool.{Bool, true, false}
 use Prim.Native.Nat.{ℕ, suc, ◌+◌, ◌-◌, ◌≤◌, ◌<◌}
 use mathlib.Core.List.{List, [], ◌∷◌, ◌++◌, append_assoc}
 use native.Mathlib.Omega.{arith}
 use lib.Dec.{leb}
 use lib.ListN.{length, get_or, take, drop, set, length-append, length-drop}
 use lib.Seq.{length-take-le, take-length, take_at, drop_at, drop-drop, drop-cons, set_at}
-use borrow.Author.Tests.{lt-leb, leb-true, not-true, not-false}
+use borrow.Author.Tests.{lt-leb, leb-true}
 use Rattle.refusals.specs.Check.{Answer, refused, accepted}
 use Rattle.refusals.proofs.Tests.{leb_same}
 use borrow.Rule.Slice.PartMut.{put_mid}
@@ -30,9 +30,9 @@ module _ (room at octets : ℕ) where
   unfolding has_room
   starts_inside h = leb_same at (room - octets) (at + octets) room (λ k. omega arith) (λ k. omega arith)
 
-  pub room_found : {r : Bool} → r ≡ has_room room at octets → not r ≡ false → at + octets ≤ room
+  pub room_found : {r : Bool} → r ≡ has_room room at octets → r ≡ true → at + octets ≤ room
   unfolding has_room
-  room_found {r} e t = leb-true (at + octets) room (sym e ∙ not-false r t)
+  room_found {r} e t = leb-true (at + octets) room (sym e ∙ t)
 
 module _ (out : List ℕ) (at : ℕ) (text : List ℕ) where
   module _ (fits : at + length text ≤ length out) where
@@ -153,14 +153,14 @@ module _ (out : List ℕ) (at : ℕ) (text : List ℕ) {r : Bool} {n : ℕ} (is 
   room_is : {b : Bool} → r ≡ b → has_room (length out) at (length text) ≡ b
   room_is e = rw (← l) (sym is ∙ e)
 
-  pub no_room : not r ≡ true → (◌≡◌ {A = Answer ℕ} (refused 22) (append_text out at text)) × (out ≡ output_after (refused 22) out at text)
+  pub no_room : r ≡ false → (◌≡◌ {A = Answer ℕ} (refused 22) (append_text out at text)) × (out ≡ output_after (refused 22) out at text)
   unfolding append_text output_after
-  no_room t = (simp (room_is (not-true r t)), refl)
+  no_room t = (simp (room_is t), refl)
 
-  pub room_for : {after : List ℕ} {next : ℕ} → not r ≡ false → Placed out at text after next
+  pub room_for : {after : List ℕ} {next : ℕ} → r ≡ true → Placed out at text after next
       → (accepted next ≡ append_text out at text) × (after ≡ output_after (accepted next) out at text)
   unfolding append_text output_after
-  room_for t p = (ap accepted p.place ∙ simp (room_is (not-false r t)), p.octets)
+  room_for t p = (ap accepted p.place ∙ simp (room_is t), p.octets)
 
 -- ---- four texts one behind the other
 
@@ -180,7 +180,7 @@ module _ (out : List ℕ) (at : ℕ) (a b c d : List ℕ) (fits : at + length (a
       placed_two f p (placed_two h q (placed_two (omega (arith, sum)) r s))
 
 -- appended, where has_room was asked about their length
-module _ (out : List ℕ) (at : ℕ) (a b c d : List ℕ) {r : Bool} {n : ℕ} (is : r ≡ has_room (length out) at n) (l : n ≡ length (a ++ (b ++ (c ++ d)))) (t : not r ≡ false) where
+module _ (out : List ℕ) (at : ℕ) (a b c d : List ℕ) {r : Bool} {n : ℕ} (is : r ≡ has_room (length out) at n) (l : n ≡ length (a ++ (b ++ (c ++ d)))) (t : r ≡ true) where
   pub four_appended : {x y z after : List ℕ} {i j k next : ℕ}
       → Placed out at a x i → Placed x i b y j → Placed y j c z k → Placed z k d after next
       → (accepted next ≡ append_text out at (a ++ (b ++ (c ++ d)))) × (after ≡ output_after (accepted next) out at (a ++ (b ++ (c ++ d))))

@@ -5,13 +5,14 @@ use mathlib.Core.Bool.{Bool, true, false, not, ◌&&◌}
 use Prim.Native.Nat.{ℕ, ◌+◌, ◌-◌, ◌%◌, ◌≤◌, ◌<◌}
 use mathlib.Core.List.{List, ◌∷◌}
 use native.Mathlib.Omega.{arith}
-use lib.Dec.{ltb}
-use lib.ListN.{length, drop, length-drop}
+use Rattle.std.proofs.Math.Bool.{and_assoc}
+use Rattle.std.proofs.lemmas.Slice.{between_is, between_to_end}
+use lib.ListN.{length, take, drop, length-drop}
 use lib.Seq.{slice, length-slice, take-length}
 use borrow.Author.Tests.{le-leb, lt-leb, lt-ltb, le-ltb, ne_eqb, leb-true, ltb-true, eqb-true, ltb-false, not-true, not-false}
 use Rattle.refusals.proofs.Tests.{by_cases}
 use Rattle.bench_lines.specs.Numerals.{all_digits, spelled}
-use Rattle.bench_lines.specs.Inside.{capped}
+use Rattle.bench_lines.specs.Inside.{are_fields}
 use Rattle.bench_lines.specs.Line.{before, first_space, second_space, lid_text, tick_text, lsdu_text, all_hold, has_form}
 use Rattle.bench_lines.proofs.Spelling.{and_both}
 
@@ -19,32 +20,20 @@ pub and_end : (b : Bool) → (b && true) ≡ b
 and_end true = refl
 and_end false = refl
 
--- a number that is counted no further than 2^32 tells whether it is below that
-pub capped_below : (n : ℕ) {r : ℕ} → r ≡ capped n → r < 4294967296 → r ≡ n
-unfolding capped
-capped_below n {r} e h = by_cases (ltb n 4294967296) (λ t. e ∙ simp t) (λ t. let f : r ≡ 4294967296 = e ∙ simp t in absurd (omega arith))
-
-pub capped_above : (n : ℕ) {r : ℕ} → r ≡ capped n → 4294967296 ≤ r → 4294967296 ≤ n
-unfolding capped
-capped_above n {r} e h =
-    by_cases (ltb n 4294967296) (λ t. let f : r ≡ n = e ∙ simp t in omega arith) (λ t. ltb-false n 4294967296 t)
-
 module _ (line : List ℕ) where
   pub too_long : 600 < length line → false ≡ has_form line
   unfolding has_form all_hold
   too_long h = simp (lt-leb _ _ h)
 
-  module _ (short : length line ≤ 600) {first : ℕ} (f : first ≡ 0 + before 32 line) where
-    pub no_lid : (first ≡ 7 → ⊥) → false ≡ has_form line
+  module _ (short : length line ≤ 600) where
+    pub no_lid : (before 32 line ≡ 7 → ⊥) → false ≡ has_form line
     unfolding has_form all_hold first_space
-    no_lid n =
-        let k : before 32 line ≡ 7 → ⊥ = λ e. n (omega arith) in
-        simp (le-leb _ _ short, ne_eqb _ _ k)
+    no_lid k = simp (le-leb _ _ short, ne_eqb _ _ k)
 
-    module _ (seven : first ≡ 7) {second : ℕ} (g : second ≡ 8 + before 32 (drop 8 line)) where
+    module _ (seven : before 32 line ≡ 7) {second : ℕ} (g : second ≡ 8 + before 32 (drop 8 line)) where
       first_is : first_space line ≡ 7
       unfolding first_space
-      first_is = omega arith
+      first_is = seven
 
       second_place_is : second_space line ≡ second
       unfolding second_space
@@ -66,49 +55,12 @@ module _ (line : List ℕ) where
       unfolding has_form all_hold
       cut_short h = simp (le-leb _ _ short, first_is, second_place_is, le-ltb _ _ h)
 
-      module _ (inside : second < length line) {a : Bool} (i : a ≡ all_digits 16 (slice 0 7 line)) where
-        pub no_lid_digit : not a ≡ true → false ≡ has_form line
-        unfolding has_form all_hold
-        no_lid_digit h = simp (le-leb _ _ short, first_is, second_place_is, lt-ltb _ _ inside, lid_is, sym i ∙ not-true a h)
-
-        module _ (hex : not a ≡ false) where
-          pub no_tick : second ≡ 8 → false ≡ has_form line
-          unfolding has_form all_hold
-          no_tick e =
-              let l : length (slice 8 second line) ≤ 0 = omega (arith, length-slice 8 second line (omega arith)) in
-              simp (le-leb _ _ short, first_is, second_place_is, lt-ltb _ _ inside, lid_is, sym i ∙ not-false a hex, tick_is, le-ltb _ _ l)
-
-          module _ (some : second ≡ 8 → ⊥) {b : Bool} (j : b ≡ all_digits 10 (slice 8 second line)) where
-            ticks : 0 < length (slice 8 second line)
-            ticks = omega (arith, length-slice 8 second line (omega arith))
-
-            pub no_tick_digit : not b ≡ true → false ≡ has_form line
-            unfolding has_form all_hold
-            no_tick_digit h =
-                simp (le-leb _ _ short, first_is, second_place_is, lt-ltb _ _ inside, lid_is, sym i ∙ not-false a hex, tick_is, lt-ltb _ _ ticks, sym j ∙ not-true b h)
-
-            module _ (decimal : not b ≡ false) {n : ℕ} (m : n ≡ capped (spelled 10 (slice 8 second line))) where
-              pub tick_too_large : 4294967296 ≤ n → false ≡ has_form line
-              unfolding has_form all_hold
-              tick_too_large h =
-                  simp (le-leb _ _ short, first_is, second_place_is, lt-ltb _ _ inside, lid_is, sym i ∙ not-false a hex, tick_is, lt-ltb _ _ ticks, sym j ∙ not-false b decimal, le-ltb _ _ (capped_above _ m h))
-
-              module _ (small : n < 4294967296) where
-                left : length (drop (second + 1) line) ≡ length line - second - 1
-                left = omega (arith, length-drop (second + 1) line)
-
-                below : spelled 10 (slice 8 second line) < 4294967296
-                below = rw (capped_below _ m small) at small
-
-                pub odd : ((length line - second - 1) % 2 ≡ 0 → ⊥) → false ≡ has_form line
-                unfolding has_form all_hold
-                odd h =
-                    simp (le-leb _ _ short, first_is, second_place_is, lt-ltb _ _ inside, lid_is, sym i ∙ not-false a hex, tick_is, lt-ltb _ _ ticks, sym j ∙ not-false b decimal, lt-ltb _ _ below, lsdu_is, left, ne_eqb _ _ h)
-
-                pub last_digits : (length line - second - 1) % 2 ≡ 0 → {d : Bool} → d ≡ all_digits 16 (slice (second + 1) (length line) line) → d ≡ has_form line
-                unfolding has_form all_hold
-                last_digits h k =
-                    k ∙ rw (take-length line) (simp (le-leb _ _ short, first_is, second_place_is, lt-ltb _ _ inside, lid_is, sym i ∙ not-false a hex, tick_is, lt-ltb _ _ ticks, sym j ∙ not-false b decimal, lt-ltb _ _ below, lsdu_is, left, h, and_end))
+      pub fields_form : second < length line → are_fields (take 7 line) (take (second - 8) (drop 8 line)) (take (length line - (second + 1)) (drop (second + 1) line)) ≡ has_form line
+      unfolding has_form all_hold are_fields
+      fields_form h =
+          let e : take (second - 8) (drop 8 line) ≡ slice 8 second line = between_is line 8 second in
+          let f : take (length line - (second + 1)) (drop (second + 1) line) ≡ drop (second + 1) line = between_to_end line (second + 1) (length line) (omega arith) in
+          rw (e, f) (sym (simp (le-leb _ _ short, first_is, second_place_is, lt-ltb _ _ h, lid_is, tick_is, lsdu_is, and_assoc, and_end)))
 
 -- ---- what the form tells
 

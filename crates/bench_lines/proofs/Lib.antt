@@ -8,4 +8,5 @@ pub mod Parts
 pub mod Reading
 pub mod RoundTrip
 pub mod Spelling
+pub mod Tests
 pub mod LineCases

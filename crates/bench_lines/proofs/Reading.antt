@@ -2,18 +2,20 @@
 -- Assumes nothing.
 use mathlib.Core.Path.{◌≡◌, refl, ap, sym, ◌∙◌}
 use mathlib.Core.Bool.{Bool, true, false, not}
-use Prim.Native.Nat.{ℕ, suc, ◌+◌, ◌-◌, ◌*◌, ◌/◌, ◌^◌, ◌≤◌, ◌<◌}
+use Prim.Native.Nat.{ℕ, suc, ◌+◌, ◌-◌, ◌*◌, ◌/◌, ◌%◌, ◌^◌, ◌≤◌, ◌<◌}
 use mathlib.Core.List.{List, [], ◌∷◌, ◌++◌}
 use native.Mathlib.Nat.{mul-le-mul_right, mul_assoc, mul-one, one-mul, add-mul, pow-zero, pow-succ'}
 use native.Mathlib.Omega.{arith}
 use lib.Dec.{ltb}
-use lib.ListN.{length, drop, length-drop}
+use Rattle.std.proofs.lemmas.Slice.{between_is, between_to_end}
+use lib.ListN.{length, take, drop, length-drop}
 use lib.Seq.{slice, length-slice}
 use borrow.Author.Tests.{le-leb, lt-leb, lt-ltb, ltb-true, not-true, not-false}
+use Rattle.std.specs.Prelude.{Some}
+use Rattle.refusals.specs.Check.{refused, accepted}
 use Rattle.bench_lines.specs.Numerals.{digit_value, all_digits, spelled_after, spelled, octets_of}
-use Rattle.bench_lines.specs.Inside.{capped}
+use Rattle.bench_lines.specs.Inside.{small}
 use Rattle.bench_lines.specs.Line.{before, first_space, second_space, lid_text, tick_text, lsdu_text, has_form, Fields, fields_of, read_line, line_answer, lsdu_after}
-use Rattle.bench_lines.specs.declared.LineRead.TheVariants as read
 use Rattle.bench_lines.proofs.Spelling.{and_both}
 use Rattle.bench_lines.proofs.Form.{Formed, formed}
 
@@ -48,14 +50,9 @@ lid_below line f =
 
 -- ---- the ways out
 
-module _ (line : List ℕ) (room : ℕ) (buffer : List ℕ) {r : Bool} (is : r ≡ has_form line) where
-  pub not_a_line : not r ≡ true → (line_answer (read.Refused 0) ≡ read_line line room) × (buffer ≡ lsdu_after (line_answer (read.Refused 0)) line buffer)
-  unfolding line_answer read_line lsdu_after
-  not_a_line t = (simp (sym is ∙ not-true r t), refl)
-
-module _ (line : List ℕ) {r : Bool} (is : r ≡ has_form line) (t : not r ≡ false) {second : ℕ} (g : second ≡ 8 + before 32 (drop 8 line)) where
+module _ (line : List ℕ) {r : Bool} (is : r ≡ has_form line) (t : r ≡ true) {second : ℕ} (g : second ≡ 8 + before 32 (drop 8 line)) where
   form : has_form line ≡ true
-  form = sym is ∙ not-false r t
+  form = sym is ∙ t
 
   pub facts : Formed line second
   unfolding second_space
@@ -75,51 +72,50 @@ module _ (line : List ℕ) {r : Bool} (is : r ≡ has_form line) (t : not r ≡ 
       let i = facts.inside in
       rw s (omega (arith, length-drop (second + 1) line))
 
-  pub whole_octets : second + 1 + 2 * ((length line - second - 1) / 2) ≡ length line
-  whole_octets = omega (arith, behind, facts.even, facts.inside)
-
-  pub hex_behind : all_digits 16 (drop (second + 1) line) ≡ true
+  -- the part of the line behind it is the LSDU's text
+  pub part_is : take (length line - (second + 1)) (drop (second + 1) line) ≡ lsdu_text line
   unfolding lsdu_text
-  hex_behind =
+  part_is =
       let s = facts.second_is in
-      let l = facts.lsdu in
-      rw s at l
+      let e : take (length line - (second + 1)) (drop (second + 1) line) ≡ drop (second + 1) line = between_to_end line (second + 1) (length line) (omega arith) in
+      rw s e
 
-  small_is : {n x : ℕ} → n ≡ capped x → x < 4294967296 → (n ≡ x) × (n < 4294967296)
-  unfolding capped
-  small_is {n} {x} e h =
-      let f : n ≡ x = e ∙ simp (lt-ltb x 4294967296 h) in
-      (f, omega arith)
+  pub part_fits : (room : ℕ) → (length line - second - 1) / 2 ≤ room
+      → (length (take (length line - (second + 1)) (drop (second + 1) line)) % 2 ≡ 0) × (length (take (length line - (second + 1)) (drop (second + 1) line)) / 2 ≤ room)
+      × (all_digits 16 (take (length line - (second + 1)) (drop (second + 1) line)) ≡ true)
+  part_fits room h = rw part_is (facts.even, omega (arith, behind), facts.lsdu)
 
-  pub lid_is : {n : ℕ} → n ≡ capped (spelled 16 (slice 0 7 line)) → (n ≡ spelled 16 (lid_text line)) × (n < 4294967296)
-  unfolding lid_text
-  lid_is e =
+  pub part_placed : (buffer : List ℕ) {out : List ℕ}
+      → out ≡ octets_of (take (length line - (second + 1)) (drop (second + 1) line)) ++ drop (length (take (length line - (second + 1)) (drop (second + 1) line)) / 2) buffer
+      → out ≡ octets_of (lsdu_text line) ++ drop ((length line - second - 1) / 2) buffer
+  part_placed buffer e = rw (part_is, behind) at e
+
+  pub lid_some : small (spelled 16 (take 7 line)) ≡ Some (spelled 16 (lid_text line))
+  unfolding lid_text small
+  lid_some =
       let h = facts.first in
       let b : spelled 16 (slice 0 7 line) < 268435456 = rw h at (lid_below line facts) in
-      rw h (small_is e (omega arith))
+      rw h (simp (lt-ltb (spelled 16 (slice 0 7 line)) 4294967296 (omega arith)))
 
-  pub tick_is : {n : ℕ} → n ≡ capped (spelled 10 (slice 8 second line)) → (n ≡ spelled 10 (tick_text line)) × (n < 4294967296)
-  unfolding tick_text
-  tick_is e =
+  pub tick_some : small (spelled 10 (take (second - 8) (drop 8 line))) ≡ Some (spelled 10 (tick_text line))
+  unfolding tick_text small
+  tick_some =
       let h = facts.first in
       let s = facts.second_is in
-      let b = facts.small in
-      rw (h, s) (small_is e (rw (h, s) at b))
+      let f = facts.small in
+      let b : spelled 10 (slice 8 second line) < 4294967296 = rw (h, s) at f in
+      let e : take (second - 8) (drop 8 line) ≡ slice 8 second line = between_is line 8 second in
+      rw (h, s, e) (simp (lt-ltb (spelled 10 (slice 8 second line)) 4294967296 b))
 
   octets_are : length (lsdu_text line) / 2 ≡ (length line - second - 1) / 2
   octets_are = ap (λ (n : ℕ). n / 2) behind
 
   module _ (room : ℕ) where
-    pub buffer_too_short : (buffer : List ℕ) → room < (length line - second - 1) / 2
-        → (line_answer (read.Refused 22) ≡ read_line line room) × (buffer ≡ lsdu_after (line_answer (read.Refused 22)) line buffer)
-    unfolding line_answer read_line fields_of lsdu_after
-    buffer_too_short buffer h = (simp (form, octets_are, lt-leb _ _ h), refl)
+    pub buffer_too_short : room < (length line - second - 1) / 2 → refused 22 ≡ read_line line room
+    unfolding read_line fields_of
+    buffer_too_short h = simp (form, octets_are, lt-leb _ _ h)
 
-    pub whole_line_law : (buffer : List ℕ) {l m : ℕ} {out : List ℕ} → l ≡ capped (spelled 16 (slice 0 7 line)) → m ≡ capped (spelled 10 (slice 8 second line))
-        → (length line - second - 1) / 2 ≤ room → out ≡ octets_of (drop (second + 1) line) ++ drop ((length line - second - 1) / 2) buffer
-        → (line_answer (read.Fields l m ((length line - second - 1) / 2)) ≡ read_line line room)
-        × (out ≡ lsdu_after (line_answer (read.Fields l m ((length line - second - 1) / 2))) line buffer)
-    unfolding line_answer read_line fields_of lsdu_after lsdu_text
-    whole_line_law buffer p q h e =
-        let s = facts.second_is in
-        (rw ((lid_is p).0, (tick_is q).0) (simp (form, octets_are, le-leb _ _ h)), rw s e)
+    pub whole_line : {l m : ℕ} → l ≡ spelled 16 (lid_text line) → m ≡ spelled 10 (tick_text line) → (length line - second - 1) / 2 ≤ room
+        → accepted (record { lid = l; tick = m; octets = (length line - second - 1) / 2 }) ≡ read_line line room
+    unfolding read_line fields_of
+    whole_line p q h = rw (p, q) (simp (form, octets_are, le-leb _ _ h))

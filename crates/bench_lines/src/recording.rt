@@ -1,6 +1,7 @@
 // A line of a recording.
 ghost use Rattle.std.specs.Prelude.{◌≡◌, ◌+◌, length, drop};
 ghost use Rattle.bench_lines.specs.Line.{before, has_form, read_line, line_answer, lsdu_after};
+ghost use Rattle.bench_lines.specs.Inside.{are_fields};
 ghost use Rattle.bench_lines.specs.RoundTrip.{ReadingPrinted};
 
 use crate::digits::{are_digits, number_of, put_octets};
@@ -19,6 +20,18 @@ pub(crate) fn find(s: &[u8], from: usize, mark: u8) -> usize
     from + rest.iter().position(|c| *c == mark).unwrap_or(rest.len())
 }
 
+// Whether a line's three texts are a LID of hex digits, a tick and an LSDU.
+fn are_fields(lid: &[u8], tick: &[u8], lsdu: &[u8]) -> bool
+    ensures { result ≡ are_fields lid.now tick.now lsdu.now }
+{
+    are_digits(lid, 16)
+        && !tick.is_empty()
+        && are_digits(tick, 10)
+        && number_of(tick, 10).is_some()
+        && lsdu.len() % 2 == 0
+        && are_digits(lsdu, 16)
+}
+
 // Whether a line has 01's form.
 fn has_form(line: &[u8]) -> bool
     ensures { result ≡ has_form line.now }
@@ -27,12 +40,11 @@ fn has_form(line: &[u8]) -> bool
     line.len() <= LONGEST_LINE
         && find(line, 0, SPACE) == LID_DIGITS
         && second < line.len()
-        && are_digits(&line[..LID_DIGITS], 16)
-        && TICK_PLACE < second
-        && are_digits(&line[TICK_PLACE..second], 10)
-        && number_of(&line[TICK_PLACE..second], 10).is_some()
-        && (line.len() - second - 1) % 2 == 0
-        && are_digits(&line[second + 1..], 16)
+        && are_fields(
+            &line[..LID_DIGITS],
+            &line[TICK_PLACE..second],
+            &line[second + 1..],
+        )
 }
 
 // The fields of a line, and its LSDU at the front of `lsdu`; refused where it has not 01's form, then where `lsdu` is too short.

@@ -14,12 +14,12 @@ pub returns-in_err-number : goal.returns-in_err-number
 returns-in_err-number c =
     let h = not_converted _ c.try_from.ensures c.in_err-number.ensures.value in
     rw c.from_residual.ensures
-    (number_over (drop (c.loop-c.c-index + 1) c.args.s.now) c.args.base _ (number_more _ _ _ c.digit_value.ensures.0 (omega arith) _ c.loop-c.invariant.1) (omega arith) (rw c.from.ensures at h))
+    (number_over (drop (c.loop-c.c-index + 1) c.args.s.now) c.args.base _ (number_more c.args.s.now c.loop-c.c-index c.args.base c.digit_value.ensures.0 (omega arith) _ c.loop-c.invariant.1) (omega arith) (rw c.from.ensures at h))
 
 pub loop-c-preserved : goal.loop-c-preserved
 loop-c-preserved c =
     let p = converted _ c.try_from.ensures c.in_ok-number.ensures.value in
-    let q = number_more _ _ c.args.base c.digit_value.ensures.0 (omega arith) _ c.loop-c.invariant.1 in
+    let q = number_more c.args.s.now c.loop-c.c-index c.args.base c.digit_value.ensures.0 (omega arith) _ c.loop-c.invariant.1 in
     (omega arith, rw (p.1, c.from.ensures) q)
 
 pub returns : goal.returns

@@ -9,4 +9,8 @@ pub returns-then-most-held : goal.returns-then-most-held
 returns-then-most-held c = record { answer = all_kept _ _ _ (omega arith); parts = keeping_parts; whole = reading_kept }
 
 pub returns : goal.returns
-returns c = let a = c.copy_from_slice.ensures.after in let b = c.min-n.ensures in record { answer = part_kept c.args.buffer.now c.args.held c.args.part.now c.min-n.result _ (omega arith) ? ? (omega arith); parts = keeping_parts; whole = reading_kept }
+returns c = record {
+  answer = part_kept _ c.args.held _ c.min-n.result _ (omega arith) c.min-n.ensures c.copy_from_slice.ensures.after (omega arith);
+  parts = keeping_parts;
+  whole = reading_kept;
+}

@@ -12,4 +12,4 @@ pub returns-in-Whole : goal.returns-in-Whole
 returns-in-Whole c = (ap length (whole_text c.in-Whole.is), omega arith)
 
 pub returns-in-Refused : goal.returns-in-Refused
-returns-in-Refused c = refused_octets c.in-Refused.is c.width_of.ensures.0 c.width_of.ensures.1
+returns-in-Refused c = refused_octets c.in-Refused.is (rw c.from.ensures at c.width_of.ensures.0) c.width_of.ensures.1

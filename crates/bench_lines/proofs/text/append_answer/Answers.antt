@@ -8,13 +8,13 @@ pub returns-then-not-has_room : goal.returns-then-not-has_room
 returns-then-not-has_room c =
     no_room _ _ _ c.has_room.ensures
     (length_line c.args.line c.args.answer c.args.octets c.args.dropped c.width_of.ensures.0 c.answer_octets.ensures.0 c.width_of-2.ensures.0 c.width_of-3.ensures.0)
-    c.if-not-has_room.true-raw
+    c.if-not-has_room.true
 
 pub put_number-second-requires : goal.put_number-second-requires
 put_number-second-requires c =
     omega (
       arith,
-      room_found _ _ _ c.has_room.ensures c.if-not-has_room.false-raw,
+      room_found _ _ _ c.has_room.ensures c.if-not-has_room.false,
       length_number c.args.line 32,
       length_number c.args.octets 32,
       length_number c.args.dropped 10,
@@ -28,7 +28,7 @@ pub put_answer-third-requires : goal.put_answer-third-requires
 put_answer-third-requires c =
     omega (
       arith,
-      room_found _ _ _ c.has_room.ensures c.if-not-has_room.false-raw,
+      room_found _ _ _ c.has_room.ensures c.if-not-has_room.false,
       length_number c.args.line 32,
       length_number c.args.octets 32,
       length_number c.args.dropped 10,
@@ -43,7 +43,7 @@ pub put_number-fourth-requires : goal.put_number-fourth-requires
 put_number-fourth-requires c =
     omega (
       arith,
-      room_found _ _ _ c.has_room.ensures c.if-not-has_room.false-raw,
+      room_found _ _ _ c.has_room.ensures c.if-not-has_room.false,
       length_number c.args.line 32,
       length_number c.args.octets 32,
       length_number c.args.dropped 10,
@@ -59,7 +59,7 @@ pub put_number-requires : goal.put_number-requires
 put_number-requires c =
     omega (
       arith,
-      room_found _ _ _ c.has_room.ensures c.if-not-has_room.false-raw,
+      room_found _ _ _ c.has_room.ensures c.if-not-has_room.false,
       length_number c.args.line 32,
       length_number c.args.octets 32,
       length_number c.args.dropped 10,
@@ -77,4 +77,4 @@ unfolding answer_line_text
 returns c =
     four_appended _ _ _ _ _ _ c.has_room.ensures
     (length_line c.args.line c.args.answer c.args.octets c.args.dropped c.width_of.ensures.0 c.answer_octets.ensures.0 c.width_of-2.ensures.0 c.width_of-3.ensures.0)
-    c.if-not-has_room.false-raw c.put_number-second.ensures c.put_answer-third.ensures c.put_number-fourth.ensures c.put_number.ensures
+    c.if-not-has_room.false c.put_number-second.ensures c.put_answer-third.ensures c.put_number-fourth.ensures c.put_number.ensures

@@ -8,13 +8,13 @@ pub returns-then-not-has_room : goal.returns-then-not-has_room
 returns-then-not-has_room c =
     no_room _ _ _ c.has_room.ensures
     (length_totals c.args.totals c.width_of.ensures.0 c.width_of-2.ensures.0 c.width_of-3.ensures.0 c.width_of-4.ensures.0)
-    c.if-not-has_room.true-raw
+    c.if-not-has_room.true
 
 pub put_named-second-requires : goal.put_named-second-requires
 put_named-second-requires c =
     omega (
       arith,
-      room_found _ _ _ c.has_room.ensures c.if-not-has_room.false-raw,
+      room_found _ _ _ c.has_room.ensures c.if-not-has_room.false,
       length_named accepted_word c.args.totals.accepted 32,
       c.width_of.ensures.0,
       c.width_of-2.ensures.0,
@@ -26,7 +26,7 @@ pub put_named-third-requires : goal.put_named-third-requires
 put_named-third-requires c =
     omega (
       arith,
-      room_found _ _ _ c.has_room.ensures c.if-not-has_room.false-raw,
+      room_found _ _ _ c.has_room.ensures c.if-not-has_room.false,
       length_named accepted_word c.args.totals.accepted 32,
       length_named delivered_word c.args.totals.delivered 32,
       c.put_named-second.ensures.place,
@@ -40,7 +40,7 @@ pub put_named-fourth-requires : goal.put_named-fourth-requires
 put_named-fourth-requires c =
     omega (
       arith,
-      room_found _ _ _ c.has_room.ensures c.if-not-has_room.false-raw,
+      room_found _ _ _ c.has_room.ensures c.if-not-has_room.false,
       length_named accepted_word c.args.totals.accepted 32,
       length_named delivered_word c.args.totals.delivered 32,
       length_named dropped_word c.args.totals.dropped 32,
@@ -56,7 +56,7 @@ pub put_named-requires : goal.put_named-requires
 put_named-requires c =
     omega (
       arith,
-      room_found _ _ _ c.has_room.ensures c.if-not-has_room.false-raw,
+      room_found _ _ _ c.has_room.ensures c.if-not-has_room.false,
       length_named accepted_word c.args.totals.accepted 32,
       length_named delivered_word c.args.totals.delivered 32,
       length_named dropped_word c.args.totals.dropped 32,
@@ -75,4 +75,4 @@ unfolding totals_text
 returns c =
     four_appended _ _ _ _ _ _ c.has_room.ensures
     (length_totals c.args.totals c.width_of.ensures.0 c.width_of-2.ensures.0 c.width_of-3.ensures.0 c.width_of-4.ensures.0)
-    c.if-not-has_room.false-raw c.put_named-second.ensures c.put_named-third.ensures c.put_named-fourth.ensures c.put_named.ensures
+    c.if-not-has_room.false c.put_named-second.ensures c.put_named-third.ensures c.put_named-fourth.ensures c.put_named.ensures

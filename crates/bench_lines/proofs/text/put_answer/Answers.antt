@@ -12,7 +12,7 @@ pub put_word-requires-in-Whole : goal.put_word-requires-in-Whole
 put_word-requires-in-Whole c = omega (arith, ap length (whole_text c.in-Whole.is))
 
 pub put_named-requires : goal.put_named-requires
-put_named-requires c = omega (arith, ap length (refused_text c.in-Refused.is))
+put_named-requires c = rw c.from.ensures (omega (arith, ap length (refused_text c.in-Refused.is)))
 
 pub returns-in-Held : goal.returns-in-Held
 returns-in-Held c = placed_as (held_text c.in-Held.is) c.put_word.ensures
@@ -21,4 +21,4 @@ pub returns-in-Whole : goal.returns-in-Whole
 returns-in-Whole c = placed_as (whole_text c.in-Whole.is) c.put_word-in-Whole.ensures
 
 pub returns-in-Refused : goal.returns-in-Refused
-returns-in-Refused c = placed_as (refused_text c.in-Refused.is) c.put_named.ensures
+returns-in-Refused c = placed_as (refused_text c.in-Refused.is) (rw c.from.ensures at c.put_named.ensures)
