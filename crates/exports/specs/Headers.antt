@@ -6,7 +6,8 @@ use Rattle.std.specs.Prelude.{ℕ, ◌+◌, ◌*◌, ◌/◌, ◌%◌, ◌<◌, 
 use Rattle.refusals.specs.Check.{Answer, refused, accepted}
 use Rattle.bits.specs.Bits.{Octets}
 use Rattle.header.specs.declared.Header.{Header}
-use Rattle.header.specs.Header.{Fields, bit_of, read_header, write_header}
+use Rattle.header.specs.declared.HeaderRead.{HeaderRead}
+use Rattle.header.specs.Header.{bit_of, read_header, write_header}
 use Rattle.words.specs.Answer.{answer_number, number_in, kind_in, first_in, second_in, Says, SaysRefused}
 use Rattle.words.specs.Word.{narrow_to}
 
@@ -14,7 +15,7 @@ use Rattle.words.specs.Word.{narrow_to}
 abbrev pub size_and_mark : ℕ → Bool → ℕ
 size_and_mark size last = size % 4 + 4 * bit_of last
 
-unfoldable pub read_number : Answer Fields → ℕ
+unfoldable pub read_number : Answer HeaderRead → ℕ
 read_number (accepted f) = answer_number 0 f.header.number f.header.counter (size_and_mark f.size f.header.last)
 read_number (refused number) = answer_number number 0 0 0
 
@@ -29,14 +30,14 @@ written_number (refused number) = answer_number number 0 0 0
 -- ---- what a caller takes out of a number r
 
 -- the header that was read: its size is the second number modulo 4, and its last mark what is left of that number
-pub record HeaderSays (r : ℕ) (f : Fields) : Type 0 where
+pub record HeaderSays (r : ℕ) (f : HeaderRead) : Type 0 where
   pub number_is : number_in r ≡ 0
   pub kind_is : kind_in r ≡ f.header.number
   pub first_is : first_in r ≡ f.header.counter
   pub size_is : second_in r % 4 ≡ f.size
   pub last_is : second_in r / 4 ≡ bit_of f.header.last
 
-unfoldable pub ReadSays : (r : ℕ) → Answer Fields → Type 0
+unfoldable pub ReadSays : (r : ℕ) → Answer HeaderRead → Type 0
 ReadSays r (accepted f) = HeaderSays r f
 ReadSays r (refused number) = SaysRefused r number 0
 

@@ -1,31 +1,25 @@
 -- What private functions of src/ do with a call's table, whatever the words. No public contract cites these.
 -- Assumes nothing.
-use Rattle.std.specs.Prelude.{ℕ, ◌≡◌, Bool, List, set}
+use Rattle.std.specs.Prelude.{ℕ, ◌≡◌, Bool, List, Result, is_ok}
 use Rattle.refusals.specs.Check.{pick}
-use Rattle.slots.specs.declared.SweepResult.{SweepResult}
-use Rattle.slots.specs.declared.Slot.{Slot}
+use Rattle.refusals.specs.declared.Refusal.{Refusal}
 use Rattle.slots.specs.declared.Table.{Table}
-use Rattle.slots.specs.Slots.{table_of}
-use Rattle.reassembly.specs.declared.FragmentAnswer.{FragmentAnswer}
+use Rattle.reassembly.specs.declared.Accepted.{Accepted}
 use Rattle.reassembly.specs.Engine.{FragmentGives}
 use Rattle.bench_lines.specs.Line.{read_line}
 use Rattle.bench_joining.specs.declared.Columns.{Columns}
 use Rattle.bench_joining.specs.Joined.{LsduJoined, LineJoined, lsdu_of}
 use Rattle.words.specs.TableWords.{table_in, table_after}
-use Rattle.exports.specs.Fragments.{kept_words, is_taken, is_swept, sweep_number}
+use Rattle.exports.specs.Fragments.{kept_words, sweep_number}
 use Rattle.exports.specs.BenchLine.{lsdu_room, is_accepted}
 
 unfoldable pub kept_table : (taken : Bool) → Table → List ℕ → List ℕ
 kept_table taken table words = pick taken (table_after table words) words
 
--- with one slot of the words' table changed
-abbrev pub kept_change : (taken : Bool) → ℕ → Slot → List ℕ → List ℕ
-kept_change taken i slot words = kept_table taken (table_of (set (table_in words).slots i slot)) words
-
 -- a fragment: the table after the call is that of the words, and an accepted call has put it
-pub record FragmentPut (lid tick : ℕ) (lsdu words store output : List ℕ) (r : FragmentAnswer) (words' store' output' : List ℕ) : Type 0 where
-  pub gives : FragmentGives lid tick lsdu (table_in words) store output (record { answer = r; table = table_in words' }) store' output'
-  pub words_are : words' ≡ kept_words (is_taken r) (table_in words') words
+pub record FragmentPut (lid tick : ℕ) (lsdu words store output : List ℕ) (r : Result Accepted Refusal) (words' store' output' : List ℕ) : Type 0 where
+  pub gives : FragmentGives lid tick lsdu (table_in words) store output r (table_in words') store' output'
+  pub words_are : words' ≡ kept_words (is_ok r) (table_in words') words
 
 -- a line's LSDU, and a line: likewise, by what the columns show
 pub record LsduPut (lid tick : ℕ) (lsdu words store output : List ℕ) (r : Columns) (words' store' output' : List ℕ) : Type 0 where
@@ -36,6 +30,6 @@ pub record LinePut (line words store output : List ℕ) (r : Columns) (words' st
   pub joined : LineJoined (read_line line lsdu_room) (lsdu_of line) (table_in words) store output (record { table = table_in words'; columns = r }) store' output'
   pub words_are : words' ≡ kept_words (is_accepted r.answer) (table_in words') words
 
-pub record SweepPut (words : List ℕ) (call : SweepResult) (r : ℕ) (words' : List ℕ) : Type 0 where
-  pub number_is : r ≡ sweep_number call.answer
-  pub words_are : words' ≡ kept_table (is_swept call.answer) call.table words
+pub record SweepPut (words : List ℕ) (answer : Result ℕ Refusal) (after : Table) (r : ℕ) (words' : List ℕ) : Type 0 where
+  pub number_is : r ≡ sweep_number answer
+  pub words_are : words' ≡ kept_table (is_ok answer) after words

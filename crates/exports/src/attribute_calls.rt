@@ -2,13 +2,13 @@
 ghost use Rattle.std.specs.Prelude.{◌≡◌};
 ghost use Rattle.attributes.specs.Inside.{tag_of};
 ghost use Rattle.attributes.specs.Serving.{told_of};
-ghost use Rattle.refusals.specs.Check.{pick};
 ghost use Rattle.words.specs.RowWords.{rows_in};
 ghost use Rattle.words.specs.Word.{narrow_to};
 ghost use Rattle.exports.specs.AttributeCalls.{outcome_number, RequestGives, LookupGives, UnpackingRequest, UnpackingLookup, LargeSought};
 
+use crate::refused::refused;
 use attributes::RequestOutcome;
-use directory::KnowsAnswer;
+use refusals::Refusal;
 use words::{directory_in, narrow, packed, put_part};
 
 const PART_WORDS: usize = 3;
@@ -39,26 +39,18 @@ pub extern "C" fn semuryeon_request(
     ensures answer { RequestGives (tag_of eid credentials.now (rows_in rows.now) factory.now writable.old) s.now out.old result writable.new out.new }
     ensures unpacking { UnpackingRequest }
 {
-    let d = directory_in(rows);
-    let listed = d.rows;
-    let result = attribute_promises::request_among(
+    let directory = directory_in(rows);
+    let answer = attribute_promises::request_among(
         s,
-        eid as u64,
+        u64::from(eid),
         credentials,
-        listed,
-        d.count,
+        directory.rows,
+        directory.count,
         factory,
         writable,
         out,
     );
-    let outcome = result.outcome;
-    told(outcome)
-}
-
-fn known_kind(known: bool) -> u8
-    ensures { result ≡ pick known 1 0 }
-{
-    if known { 1 } else { 0 }
+    told(answer.outcome)
 }
 
 // Where an attribute lies: kind 1 is known, and its area (0 factory, 1 writable), start and length are the first three words of `part`; kind 0 is unknown,
@@ -75,19 +67,14 @@ pub extern "C" fn semuryeon_lookup(
     ensures unpacking { UnpackingLookup }
     ensures large_id { LargeSought }
 {
-    let d = directory_in(rows);
+    let directory = directory_in(rows);
     let sought = narrow(id);
-    let listed = d.rows;
-    let answer = directory::knows_among(listed, d.count, factory, writable, sought);
-    match answer {
-        KnowsAnswer::Refused(number) => packed(number, 0, 0, 0),
-        KnowsAnswer::Known(known) => {
-            if part.len() < PART_WORDS {
-                return packed(refusals::OUTPUT_TOO_SMALL, 0, 0, 0);
-            }
-            let row = directory::row_for(d, factory, writable, sought);
-            put_part(row, part);
-            packed(0, known_kind(known), 0, 0)
+    match directory::knows_among(directory.rows, directory.count, factory, writable, sought) {
+        Err(refusal) => refused(refusal),
+        Ok(_) if part.len() < PART_WORDS => refused(Refusal::OutputTooSmall),
+        Ok(known) => {
+            put_part(directory::row_for(directory, factory, writable, sought), part);
+            packed(0, u8::from(known), 0, 0)
         }
     }
 }

@@ -1,41 +1,23 @@
 // Joining: the table lives in 41 words, all zero at first, and the store and output are lent.
 ghost use Rattle.std.specs.Prelude.{◌≡◌};
 ghost use Rattle.exports.specs.ExportedRuns.{ExportedDemand, ExportedRunsExist};
-ghost use Rattle.exports.specs.Fragments.{is_taken, fragment_number, FragmentExported, ExpiryExported, ReleaseExported};
-ghost use Rattle.exports.specs.Putting.{kept_change, FragmentPut, SweepPut};
+ghost use Rattle.exports.specs.Fragments.{fragment_number, FragmentExported, ExpiryExported, ReleaseExported};
+ghost use Rattle.exports.specs.Putting.{FragmentPut, SweepPut};
 
-use reassembly::FragmentAnswer;
-use slots::{Slot, SweepAnswer, SweepResult};
+use crate::refused::refused;
+use reassembly::Accepted;
+use refusals::Refusal;
+use slots::Table;
 use words::{packed, put_change, put_table, table_in};
 
-fn taken(answer: FragmentAnswer) -> bool
-    ensures { result ≡ is_taken answer }
-{
-    match answer {
-        FragmentAnswer::Held { octets, dropped } => true,
-        FragmentAnswer::Whole { octets, dropped } => true,
-        FragmentAnswer::Refused(_) => false,
-    }
-}
-
-fn fragment_number(answer: FragmentAnswer) -> u64
+fn fragment_number(answer: Result<Accepted, Refusal>) -> u64
     ensures { result ≡ fragment_number answer }
 {
     match answer {
-        FragmentAnswer::Held { octets, dropped } => packed(0, 1, octets, dropped),
-        FragmentAnswer::Whole { octets, dropped } => packed(0, 2, octets, dropped),
-        FragmentAnswer::Refused(number) => packed(number, 0, 0, 0),
+        Ok(Accepted::Held { octets, dropped }) => packed(0, 1, octets, dropped),
+        Ok(Accepted::Whole { octets, dropped }) => packed(0, 2, octets, dropped),
+        Err(refusal) => refused(refusal),
     }
-}
-
-// Puts the slot that an accepted call has changed; after a refusal the words stay as they were.
-fn keep_change(accepted: bool, i: usize, slot: Slot, table: &mut [u32])
-    ensures { table.new ≡ kept_change accepted i slot table.old }
-{
-    if !accepted {
-        return;
-    }
-    put_change(i, slot, table);
 }
 
 // One fragment over the table's words. The exported calls that join share it, so that the fragment call has one caller here and is inlined. The slices that come
@@ -47,14 +29,12 @@ pub(crate) fn joined(
     table: &mut [u32],
     lid: u32,
     tick: u32,
-) -> FragmentAnswer
+) -> Result<Accepted, Refusal>
     ensures { FragmentPut lid tick lsdu.now table.old store.old out.old result table.new store.new out.new }
 {
-    let c = reassembly::fragment_change(lid, tick, lsdu, table_in(table), store, out);
-    let answer = c.answer;
-    let slot = c.slot;
-    keep_change(taken(answer), c.index, slot, table);
-    answer
+    let change = reassembly::fragment_change(lid, tick, lsdu, table_in(table), store, out)?;
+    put_change(change.index, change.slot, table);
+    Ok(change.accepted)
 }
 
 // One fragment: kind 1 is held, 2 whole; first the octets held or delivered, second those dropped. Refused 1 to 12.
@@ -74,17 +54,16 @@ pub extern "C" fn semuryeon_fragment(
     fragment_number(joined(store, out, lsdu, table, lid, tick))
 }
 
-fn swept(res: SweepResult, table: &mut [u32]) -> u64
-    ensures { SweepPut table.old res result table.new }
+// Puts the table that a sweep leaves; after a refusal the words stay as they were.
+fn swept(answer: Result<usize, Refusal>, after: Table, table: &mut [u32]) -> u64
+    ensures { SweepPut table.old answer after result table.new }
 {
-    let answer = res.answer;
-    let after = res.table;
     match answer {
-        SweepAnswer::Dropped(octets) => {
+        Ok(octets) => {
             put_table(after, table);
             packed(0, 0, octets, 0)
         }
-        SweepAnswer::Refused(number) => packed(number, 0, 0, 0),
+        Err(refusal) => refused(refusal),
     }
 }
 
@@ -93,8 +72,9 @@ fn swept(res: SweepResult, table: &mut [u32]) -> u64
 pub extern "C" fn semuryeon_expire(tick: u32, limit: u32, table: &mut [u32]) -> u64
     ensures { ExpiryExported tick limit table.old result table.new }
 {
-    let result = slots::expire(table_in(table), tick, limit);
-    swept(result, table)
+    let mut after = table_in(table);
+    let answer = slots::expire(&mut after, tick, limit);
+    swept(answer, after, table)
 }
 
 // Frees each slot of a LID: first is how many octets were dropped. Refused 2, 3.
@@ -102,6 +82,7 @@ pub extern "C" fn semuryeon_expire(tick: u32, limit: u32, table: &mut [u32]) -> 
 pub extern "C" fn semuryeon_release(lid: u32, table: &mut [u32]) -> u64
     ensures { ReleaseExported lid table.old result table.new }
 {
-    let result = slots::release(table_in(table), lid);
-    swept(result, table)
+    let mut after = table_in(table);
+    let answer = slots::release(&mut after, lid);
+    swept(answer, after, table)
 }

@@ -3,14 +3,15 @@ ghost use Rattle.std.specs.Prelude.{◌≡◌, length};
 ghost use Rattle.header.specs.Header.{read_header, write_header, output_after};
 ghost use Rattle.exports.specs.Headers.{size_and_mark, read_number, header_from, written_number, UnpackingRead, UnpackingWritten, LargeNumber};
 
-use header::{Header, HeaderRead, HeaderWritten};
+use crate::refused::refused;
+use header::{Header, HeaderRead};
 use words::packed;
 
 // The header's octets, and 4 more with the last mark.
 fn size_and_mark(size: usize, last: bool) -> usize
     ensures { result ≡ size_and_mark size last }
 {
-    if last { size % 4 + 4 } else { size % 4 }
+    size % 4 + 4 * usize::from(last)
 }
 
 // The header at the front of `s`: kind is the PDU number, first the counter, second the header's octets, and 4 more with the last mark. Refused 5.
@@ -20,13 +21,13 @@ pub extern "C" fn semuryeon_header_read(s: &[u8]) -> u64
     ensures unpacking { UnpackingRead }
 {
     match header::read(s) {
-        HeaderRead::Fields { header, size } => packed(
+        Ok(HeaderRead { header, size }) => packed(
             0,
             header.number,
             header.counter as usize,
             size_and_mark(size, header.last),
         ),
-        HeaderRead::Refused(number) => packed(number, 0, 0, 0),
+        Err(refusal) => refused(refusal),
     }
 }
 
@@ -48,7 +49,7 @@ pub extern "C" fn semuryeon_header_write(
         counter,
     };
     match header::write(fields, out) {
-        HeaderWritten::Octets(n) => packed(0, 0, n, 0),
-        HeaderWritten::Refused(k) => packed(k, 0, 0, 0),
+        Ok(octets) => packed(0, 0, octets, 0),
+        Err(refusal) => refused(refusal),
     }
 }

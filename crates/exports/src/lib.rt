@@ -9,4 +9,5 @@ mod fragments;
 mod headers;
 mod link_calls;
 mod messages;
+mod refused;
 mod strings;

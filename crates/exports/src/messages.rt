@@ -5,10 +5,12 @@ ghost use Rattle.apdu_writing.specs.Answer as writing;
 ghost use Rattle.apdu_rewriting.specs.Rewriting.{answer_of, rewrite_answer, rewrite_output};
 ghost use Rattle.exports.specs.Messages.{choice_of, check_number, checked_number, written_number, UnpackingCheck, UnpackingRewritten};
 
+use crate::refused::refused;
 use apdu::Message;
 use apdu_reading::Answer;
 use apdu_rewriting::Rewritten;
-use apdu_writing::ApduWritten;
+use apdu_writing::WriteRefusal;
+use refusals::Refusal;
 use words::packed;
 
 // A message's choice.
@@ -44,19 +46,19 @@ pub extern "C" fn semuryeon_check(s: &[u8]) -> u64
     ensures answer { result ≡ check_number (read_message s.now) }
     ensures unpacking { UnpackingCheck }
 {
-    let reading = apdu_reading::read(s);
-    let answer = reading.answer;
-    checked(answer)
+    checked(apdu_reading::read(s).answer)
 }
 
-fn written(w: ApduWritten) -> u64
-    ensures { result ≡ written_number (writing.answer_of w) }
+fn written(octets: Result<usize, WriteRefusal>) -> u64
+    ensures { result ≡ written_number (writing.answer_of octets) }
 {
-    match w {
-        ApduWritten::RecordOutOfRange => packed(refusals::RECORD_OUT_OF_RANGE, 0, 0, 0),
-        ApduWritten::MessageTooLong(position) => packed(refusals::APDU_TOO_LONG, 0, position, 0),
-        ApduWritten::OutputTooSmall => packed(refusals::OUTPUT_TOO_SMALL, 0, 0, 0),
-        ApduWritten::Octets(n) => packed(0, 0, n, 0),
+    match octets {
+        Ok(octets) => packed(0, 0, octets, 0),
+        Err(WriteRefusal::RecordOutOfRange) => refused(Refusal::RecordOutOfRange),
+        Err(WriteRefusal::MessageTooLong(position)) => {
+            packed(u8::from(Refusal::ApduTooLong), 0, position, 0)
+        }
+        Err(WriteRefusal::OutputTooSmall) => refused(Refusal::OutputTooSmall),
     }
 }
 
@@ -65,7 +67,7 @@ fn rewritten(answer: Rewritten) -> u64
 {
     match answer {
         Rewritten::Refused(number, position) => packed(number, 0, position, 0),
-        Rewritten::Written(w) => written(w),
+        Rewritten::Written(octets) => written(octets),
     }
 }
 
@@ -76,6 +78,5 @@ pub extern "C" fn semuryeon_rewrite(s: &[u8], out: &mut [u8]) -> u64
     ensures answer { (result ≡ written_number (rewrite_answer s.now (length out.old))) × (out.new ≡ rewrite_output s.now out.old) }
     ensures unpacking { UnpackingRewritten }
 {
-    let answer = apdu_rewriting::rewrite(s, out);
-    rewritten(answer)
+    rewritten(apdu_rewriting::rewrite(s, out))
 }

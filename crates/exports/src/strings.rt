@@ -1,10 +1,12 @@
 // The octet strings of a message by number: 0 the credentials, 1 the parameter, 2 to 33 the attribute rows in the order of the message, 34 to 65 the parameters of the
 // application entries.
 ghost use Rattle.std.specs.Prelude.{◌≡◌};
-ghost use Rattle.exports.specs.Strings.{part, no_string, credentials_in, parameter_in, row_string, entry_string, string_part, string_number, string_output, StringGives, EachString};
+ghost use Rattle.exports.specs.Strings.{part, credentials_in, parameter_in, row_string, entry_string, string_part, string_number, string_output, StringGives, EachString};
 
+use crate::refused::refused;
 use apdu::{Entry, Lists, Message, Row};
 use apdu_reading::Answer;
+use refusals::Refusal;
 use words::packed;
 
 const CREDENTIALS: u32 = 0;
@@ -17,134 +19,96 @@ const FIRST_ENTRY: u32 = 34;
 
 const FIELDS: u32 = 66;
 
-// A string's part of the message, if it is there: a bit place and octets.
+// A string's part of the message: a bit place and octets.
 #[derive(Clone, Copy)]
 pub(crate) struct StringPart {
-    pub present: bool,
     pub start: usize,
     pub length: usize,
 }
 
-fn string_part(present: bool, start: usize, length: u64) -> StringPart
+fn string_part(present: bool, start: usize, length: u64) -> Option<StringPart>
     ensures { result ≡ part present start length }
 {
-    StringPart {
-        present,
+    present.then_some(StringPart {
         start,
         length: length as usize,
-    }
+    })
 }
 
-fn no_string() -> StringPart
-    ensures { result ≡ no_string }
-{
-    StringPart {
-        present: false,
-        start: 0,
-        length: 0,
-    }
-}
-
-fn credentials_of(m: Message) -> StringPart
+fn credentials_of(m: Message) -> Option<StringPart>
     ensures { result ≡ credentials_in m }
 {
     match m {
-        Message::ActionRequest(x) => {
+        Message::ActionRequest(x) | Message::EventRequest(x) => {
             string_part(x.has_credentials, x.credentials, x.credentials_length)
         }
-        Message::ActionResponse(_) => no_string(),
-        Message::EventRequest(x) => string_part(
-            x.has_credentials,
-            x.credentials,
-            x.credentials_length,
-        ),
-        Message::EventResponse(_) => no_string(),
-        Message::SetRequest(x) => string_part(
-            x.has_credentials,
-            x.credentials,
-            x.credentials_length,
-        ),
-        Message::SetResponse(_) => no_string(),
-        Message::GetRequest(x) => string_part(
-            x.has_credentials,
-            x.credentials,
-            x.credentials_length,
-        ),
-        Message::GetResponse(_) => no_string(),
-        Message::Bst(_) => no_string(),
-        Message::Vst(_) => no_string(),
+        Message::SetRequest(x) => {
+            string_part(x.has_credentials, x.credentials, x.credentials_length)
+        }
+        Message::GetRequest(x) => {
+            string_part(x.has_credentials, x.credentials, x.credentials_length)
+        }
+        _ => None,
     }
 }
 
-fn parameter_of(m: Message) -> StringPart
+fn parameter_of(m: Message) -> Option<StringPart>
     ensures { result ≡ parameter_in m }
 {
     match m {
-        Message::ActionRequest(x) => string_part(x.kind == apdu::OCTET_STRING, x.start, x.n),
+        Message::ActionRequest(x) | Message::EventRequest(x) => {
+            string_part(x.kind == apdu::OCTET_STRING, x.start, x.n)
+        }
         Message::ActionResponse(x) => string_part(x.kind == apdu::OCTET_STRING, x.start, x.n),
-        Message::EventRequest(x) => string_part(x.kind == apdu::OCTET_STRING, x.start, x.n),
-        Message::EventResponse(_) => no_string(),
-        Message::SetRequest(_) => no_string(),
-        Message::SetResponse(_) => no_string(),
-        Message::GetRequest(_) => no_string(),
-        Message::GetResponse(_) => no_string(),
-        Message::Bst(_) => no_string(),
-        Message::Vst(_) => no_string(),
+        _ => None,
     }
 }
 
-fn row_string(row: Row) -> StringPart
+fn row_string(row: Row) -> Option<StringPart>
     ensures { result ≡ row_string row }
 {
     string_part(
-        row.kind as u64 == apdu::OCTET_STRING,
+        u64::from(row.kind) == apdu::OCTET_STRING,
         row.start as usize,
-        row.n as u64,
+        u64::from(row.n),
     )
 }
 
-fn entry_string(entry: Entry) -> StringPart
+fn entry_string(entry: Entry) -> Option<StringPart>
     ensures { result ≡ entry_string entry }
 {
     string_part(
-        entry.kind as u64 == apdu::OCTET_STRING,
+        u64::from(entry.kind) == apdu::OCTET_STRING,
         entry.start as usize,
-        entry.n as u64,
+        u64::from(entry.n),
     )
 }
 
-fn part_of(m: Message, lists: Lists, field: u32) -> StringPart
+fn part_of(m: Message, lists: Lists, field: u32) -> Option<StringPart>
     ensures { result ≡ string_part m lists field }
 {
-    if field == CREDENTIALS {
-        return credentials_of(m);
+    match field {
+        CREDENTIALS => credentials_of(m),
+        PARAMETER => parameter_of(m),
+        FIRST_ROW..FIRST_ENTRY => row_string(lists.rows[(field - FIRST_ROW) as usize]),
+        FIRST_ENTRY..FIELDS => entry_string(lists.entries[(field - FIRST_ENTRY) as usize]),
+        _ => None,
     }
-    if field == PARAMETER {
-        return parameter_of(m);
-    }
-    if field < FIRST_ENTRY {
-        let i = (field - FIRST_ROW) as usize;
-        let row = lists.rows[i];
-        return row_string(row);
-    }
-    if field < FIELDS {
-        let i = (field - FIRST_ENTRY) as usize;
-        let entry = lists.entries[i];
-        return entry_string(entry);
-    }
-    no_string()
 }
 
-fn give(s: &[u8], p: StringPart, out: &mut [u8]) -> u64
-    ensures { (result ≡ string_number s.now p out.old) × (out.new ≡ string_output s.now p out.old) }
+fn give(s: &[u8], part: Option<StringPart>, out: &mut [u8]) -> u64
+    ensures { (result ≡ string_number s.now part out.old) × (out.new ≡ string_output s.now part out.old) }
 {
-    if !p.present {
-        return packed(0, 0, 0, 0);
+    match part {
+        None => packed(0, 0, 0, 0),
+        Some(StringPart { start, length }) => {
+            if bits::copy_string(s, start, length, out, 0) {
+                packed(0, 1, length, 0)
+            } else {
+                refused(Refusal::OutputTooSmall)
+            }
+        }
     }
-    if bits::copy_string(s, p.start, p.length, out, 0) {
-        return packed(0, 1, p.length, 0);
-    }
-    packed(refusals::OUTPUT_TOO_SMALL, 0, 0, 0)
 }
 
 // Writes the octets of a string of the message `s` to the front of `out`: kind 0 is no such string, 1 one whose octets are first. Refused as reading
@@ -155,10 +119,8 @@ pub extern "C" fn semuryeon_string(s: &[u8], field: u32, out: &mut [u8]) -> u64
     ensures inside { EachString }
 {
     let reading = apdu_reading::read(s);
-    let answer = reading.answer;
-    let lists = reading.lists;
-    match answer {
+    match reading.answer {
         Answer::Refused(number, position) => packed(number, 0, position, 0),
-        Answer::Message(m) => give(s, part_of(m, lists, field), out),
+        Answer::Message(m) => give(s, part_of(m, reading.lists, field), out),
     }
 }
