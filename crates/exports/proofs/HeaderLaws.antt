@@ -7,12 +7,12 @@ use native.Mathlib.Omega.{arith}
 use lib.ListN.{length}
 use lib.Dec.{eqb, ltb}
 use borrow.Author.Tests.{ne_eqb, lt-ltb, ltb-true, ltb-false}
-use Rattle.refusals.specs.Check.{pick, first_of, accepted, decided}
+use Rattle.refusals.specs.Check.{pick, first_of, Answer, accepted, decided}
 use Rattle.refusals.proofs.Tests.{by_cases, numbers_to, first_le}
 use Rattle.bits.specs.Bits.{Octets}
 use Rattle.header.specs.declared.Header.{Header}
-use Rattle.header.specs.declared.HeaderWritten.{HeaderWritten}
-use Rattle.header.specs.Header.{Fields, bit_of, end_bit, length_for, header_of, header_length, read_refusal, read_header, write_refusal, write_header, write_answer, output_after}
+use Rattle.header.specs.declared.HeaderRead.{HeaderRead}
+use Rattle.header.specs.Header.{bit_of, end_bit, length_for, header_of, header_length, read_refusal, read_header, write_refusal, write_header, output_after}
 use Rattle.header.proofs.WritingBack.{again}
 use Rattle.words.specs.Answer.{answer_number, SaysRefused, UnpackingAnswer}
 use Rattle.words.specs.Word.{narrow_to}
@@ -31,16 +31,16 @@ length_small s = go (eqb (end_bit s 0) 1) (eqb (end_bit s 1) 1)
     go false true = omega arith
     go false false = omega arith
 
-size_is : (s : List ℕ) (n : ℕ) (f : Fields) → decided n (record { header = header_of s; size = header_length s }) ≡ accepted f → f.size ≡ header_length s
+size_is : (s : List ℕ) (n : ℕ) (f : HeaderRead) → decided n (record { header = header_of s; size = header_length s }) ≡ accepted f → f.size ≡ header_length s
 unfolding decided
-size_is s zero f e = let q : ◌≡◌ {A = Fields} (record { header = header_of s; size = header_length s }) f = cc in ap (λ (x : Fields). x.size) (sym q)
+size_is s zero f e = let q : ◌≡◌ {A = HeaderRead} (record { header = header_of s; size = header_length s }) f = cc in ap (λ (x : HeaderRead). x.size) (sym q)
 size_is s (suc n) f e = let z : ◌≡◌ {A = ℕ} 0 1 = cc in absurd (omega arith)
 
 mark_small : (last : Bool) → bit_of last ≤ 1
 mark_small true = omega arith
 mark_small false = omega arith
 
-header_says : (s : List ℕ) (f : Fields) → Octets s → read_header s ≡ accepted f → HeaderSays (read_number (accepted f)) f
+header_says : (s : List ℕ) (f : HeaderRead) → Octets s → read_header s ≡ accepted f → HeaderSays (read_number (accepted f)) f
 unfolding UnpackingAnswer read_header read_number
 header_says s f octets e =
     let range = (again s f octets e).in_range in
@@ -81,7 +81,7 @@ pub unpacking_read : UnpackingRead
 unfolding UnpackingRead ReadSays read_header read_number decided
 unpacking_read s octets = go (read_refusal s) refl (read_five s)
   where
-    fields : Fields
+    fields : HeaderRead
     fields = record { header = header_of s; size = header_length s }
 
     go : (n : ℕ) → read_refusal s ≡ n → n ≤ 23 → ReadSays (read_number (decided n fields)) (decided n fields)
@@ -108,8 +108,8 @@ unfolding LargeNumber header_from write_header write_refusal first_of decided
 large_number last number counter room h = rw (still_above number h)
 
 -- the writer's contract, of the header that is handed in
-pub written_by : (h' h : Header) (out out' : List ℕ) (r : ℕ) (w : HeaderWritten) → h ≡ h' → (write_answer w ≡ write_header h (length out)) × (out' ≡ output_after (write_answer w) h out)
-    → r ≡ written_number (write_answer w) → (r ≡ written_number (write_header h' (length out))) × (out' ≡ output_after (write_header h' (length out)) h' out)
-written_by h' h out out' r w e g n =
-    let is : write_answer w ≡ write_header h' (length out) = g.0 ∙ ap (λ (x : Header). write_header x (length out)) e in
+pub written_by : (h' h : Header) (out out' : List ℕ) (r : ℕ) (a : Answer ℕ) → h ≡ h' → (a ≡ write_header h (length out)) × (out' ≡ output_after a h out)
+    → r ≡ written_number a → (r ≡ written_number (write_header h' (length out))) × (out' ≡ output_after (write_header h' (length out)) h' out)
+written_by h' h out out' r a e g n =
+    let is : a ≡ write_header h' (length out) = g.0 ∙ ap (λ (x : Header). write_header x (length out)) e in
     (n ∙ ap written_number is, g.1 ∙ λ i. output_after (is i) (e i) out)

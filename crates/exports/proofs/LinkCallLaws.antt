@@ -2,18 +2,18 @@
 use Prim.Native.Nat.{ℕ}
 use mathlib.Core.Path.{◌≡◌, ap, ◌∙◌}
 use mathlib.Core.List.{List}
+use Rattle.std.specs.Prelude.{Option, None, Result}
 use Rattle.refusals.specs.Check.{Answer}
+use Rattle.refusals.specs.declared.Refusal.{Refusal}
 use Rattle.apdu.specs.declared.records.Bst.{Bst}
 use Rattle.apdu.specs.declared.records.Message.{Message}
+use Rattle.apdu.specs.declared.records.Message.TheVariants as kind
 use Rattle.apdu_reading.specs.declared.front.Answer.TheVariants as answer
 use Rattle.apdu_reading.specs.declared.front.Reading.{Reading}
 use Rattle.apdu_reading.specs.Answers.{Reads}
 use Rattle.initialisation.specs.declared.records.Link.{Link}
-use Rattle.initialisation.specs.declared.records.BstResult.{BstResult}
 use Rattle.initialisation.specs.Link.{Changed}
 use Rattle.initialisation.specs.Hearing.{Call, Reply, reply_of, heard_of, BstGives}
-use Rattle.exports.specs.declared.link_calls.Offer.{Offer}
-use Rattle.exports.specs.declared.link_calls.Offer.TheVariants as offer
 use Rattle.exports.specs.Messages.{refusal_number, refusal_at}
 use Rattle.exports.specs.LinkCalls.{change_number, change_words, ChangeGives, reply_number, reply_words, effect, heard_effect, offer_of, Brought, call_of, offered_effect, read_effect, BstEffect}
 
@@ -29,14 +29,14 @@ changes c words {link = link} p q e =
 
 -- ---- BST
 
-pub heard_is : (words : List ℕ) (c : Call) {result : BstResult} {r : ℕ} {words' out' : List ℕ} → BstGives c result out'
-    → (r ≡ reply_number (reply_of result.answer)) × (words' ≡ reply_words (reply_of result.answer) result.link words)
+pub heard_is : (words : List ℕ) (c : Call) {answer : Result (Option ℕ) Refusal} {after : Link} {r : ℕ} {words' out' : List ℕ} → BstGives c answer after out'
+    → (r ≡ reply_number (reply_of answer)) × (words' ≡ reply_words (reply_of answer) after words)
     → effect r words' out' ≡ heard_effect words c
 unfolding heard_effect
-heard_is words c {result = result} g e =
+heard_is words c {after = after} g e =
     let n : _ ≡ reply_number (heard_of c).reply = e.0 ∙ ap reply_number g.reply_is in
     let w : _ ≡ reply_words (heard_of c).reply (heard_of c).link words =
-    e.1 ∙ ap (λ (x : Reply). reply_words x result.link words) g.reply_is ∙ ap (λ (l : Link). reply_words (heard_of c).reply l words) g.link_is in
+    e.1 ∙ ap (λ (x : Reply). reply_words x after words) g.reply_is ∙ ap (λ (l : Link). reply_words (heard_of c).reply l words) g.link_is in
     let o = g.output_is in
     cc
 
@@ -48,12 +48,11 @@ module _ (b : Brought) (s : List ℕ) (g : Reading) (e : Reads s g) where
   unfolding read_effect
   bst_refused k p a q = by_reading_law (rw a (ap (λ (n : ℕ). effect n b.words b.out) q))
 
-  module _ (m : Message) (o : Offer) (a : g.answer ≡ answer.Message m) (is : o ≡ offer_of m) where
-    pub bst_other : {r : ℕ} → o ≡ offer.Other → r ≡ refusal_number 23 → BstEffect b s r b.words b.out
-    unfolding read_effect offered_effect
-    bst_other n q = by_reading_law (rw (a, ← is, n) (ap (λ (n : ℕ). effect n b.words b.out) q))
+  pub bst_other : (m : Message) {r : ℕ} → g.answer ≡ answer.Message m → offer_of m ≡ None → r ≡ refusal_number 23 → BstEffect b s r b.words b.out
+  unfolding read_effect offered_effect
+  bst_other m a n q = by_reading_law (rw (a, n) (ap (λ (n : ℕ). effect n b.words b.out) q))
 
-    pub bst_heard : (bst : Bst) {r : ℕ} {words' out' : List ℕ} → o ≡ offer.Offered bst
-        → effect r words' out' ≡ heard_effect b.words (call_of b s g.lists bst) → BstEffect b s r words' out'
-    unfolding read_effect offered_effect
-    bst_heard bst n q = by_reading_law (rw (a, ← is, n) q)
+  pub bst_heard : (bst : Bst) {r : ℕ} {words' out' : List ℕ} → g.answer ≡ answer.Message (kind.Bst bst)
+      → effect r words' out' ≡ heard_effect b.words (call_of b s g.lists bst) → BstEffect b s r words' out'
+  unfolding read_effect offered_effect
+  bst_heard bst a q = by_reading_law (rw a q)

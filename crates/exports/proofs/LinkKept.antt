@@ -6,6 +6,7 @@ use mathlib.Core.List.{List, [], ◌∷◌}
 use lib.ListN.{length}
 use lib.Dec.{eqb, ltb}
 use borrow.Author.Tests.{eqb-true, eqb-false, not-false}
+use Rattle.std.specs.Prelude.{Option, Some, None}
 use Rattle.refusals.specs.Check.{Check, check, first_of}
 use Rattle.refusals.proofs.Tests.{by_test, by_cases, and_true, first_none}
 use Rattle.apdu_format.specs.Table.{layout_of}
@@ -28,12 +29,10 @@ use Rattle.initialisation.specs.declared.records.Phase.TheVariants.{Sleeping, Lo
 use Rattle.initialisation.specs.declared.records.Link.{Link}
 use Rattle.initialisation.specs.Link.{lid_in_range, phase_in_range, link_in_range, is_ready_under, is_asleep, Changed, changed, release_of, tick_of}
 use Rattle.initialisation.specs.Elements.{elements_sound}
-use Rattle.initialisation.specs.Offer.{Found, nothing, found}
-use Rattle.initialisation.specs.Hearing.{Call, configuration_in_range, records_in_range, hearing_refusal, Taken, beacon_of, sent, woken, phase_after, link_after, reply_to, Heard, heard_of}
+use Rattle.initialisation.specs.declared.hearing.Taken.{Taken}
+use Rattle.initialisation.specs.Hearing.{Call, configuration_in_range, records_in_range, hearing_refusal, beacon_of, sent, woken, phase_after, link_after, reply_to, Heard, heard_of}
 use Rattle.words.specs.LinkWords.{with_link, link_in, UnpackingPutLink, OtherLinkLength}
 use Rattle.words.proofs.LinkLaws.{unpacking_put_link, other_link_length}
-use Rattle.exports.specs.declared.link_calls.Offer.{Offer}
-use Rattle.exports.specs.declared.link_calls.Offer.TheVariants as offer
 use Rattle.exports.specs.LinkCalls.{change_words, reply_words, Effect, heard_effect, offer_of, Brought, call_of, offered_effect, read_effect, offered_link, heard_link, KeptReleased, KeptTicked, KeptHeard}
 
 -- ---- what is put
@@ -129,9 +128,9 @@ module _ (c : Call) where
   after_in_range : Passed → link_in_range (link_after c) ≡ true
   after_in_range p = go (sent c)
     where
-      go : (f : Found Taken) → phase_in_range (phase_after f c.link.phase (beacon_of c.bst) c.lid) ≡ true
-      go nothing = woken_in_range c.link.phase p.link
-      go (found t) =
+      go : (f : Option Taken) → phase_in_range (phase_after f c.link.phase (beacon_of c.bst) c.lid) ≡ true
+      go None = woken_in_range c.link.phase p.link
+      go (Some t) =
           let b = beacon_fits c.lent c.bst c.lists.entries c.lists.rows p.formed in
           and_true b.0 (and_true b.1 p.lid)
 
@@ -144,16 +143,16 @@ module _ (c : Call) where
       go (sent c) (put_back words (sym (ap link_in_range is) ∙ p.link) (link_after c) (after_in_range p)))
       (λ t. sym is)
     where
-      go : (f : Found Taken) → link_in (with_link (link_after c) words) ≡ link_after c
+      go : (f : Option Taken) → link_in (with_link (link_after c) words) ≡ link_after c
           → link_in (reply_words (reply_to f c.marks c.configuration) (link_after c) words) ≡ link_after c
-      go nothing e = e
-      go (found t) e = e
+      go None e = e
+      go (Some t) e = e
 
 module _ (b : Brought) (s : List ℕ) (lists : Lists) where
-  offer_kept : (o : Offer) → link_in (offered_effect b s lists o).words ≡ offered_link b s lists o
+  offer_kept : (o : Option Bst) → link_in (offered_effect b s lists o).words ≡ offered_link b s lists o
   unfolding offered_effect heard_effect offered_link
-  offer_kept offer.Other = refl
-  offer_kept (offer.Offered bst) = heard_kept (call_of b s lists bst) b.words refl
+  offer_kept None = refl
+  offer_kept (Some bst) = heard_kept (call_of b s lists bst) b.words refl
 
   bst_kept : (a : reader.Answer) → link_in (read_effect b s lists a).words ≡ heard_link b s lists a
   unfolding read_effect heard_link

@@ -5,21 +5,21 @@ use mathlib.Core.Bool.{true}
 use mathlib.Core.List.{List}
 use native.Mathlib.Omega.{arith}
 use lib.Dec.{eqb}
+use Rattle.std.specs.Prelude.{Option, Some, None}
 use Rattle.refusals.specs.Check.{Check, first_of}
 use Rattle.refusals.proofs.Tests.{by_test, numbers_to, first_le}
 use Rattle.apdu_format.specs.Reading.{read_message}
 use Rattle.apdu_format.specs.Writing.{size}
 use Rattle.apdu.specs.declared.lists.Lists.{Lists}
+use Rattle.apdu.specs.declared.records.Bst.{Bst}
 use Rattle.apdu_reading.specs.declared.front.Answer as reader
 use Rattle.apdu_reading.specs.declared.front.Answer.TheVariants as answer
 use Rattle.apdu_reading.specs.Answers.{told, outcome_of}
 use Rattle.initialisation.specs.declared.records.Link.{Link}
 use Rattle.initialisation.specs.Link.{Changed, changed, release_of, tick_of}
-use Rattle.initialisation.specs.Offer.{Found, nothing, found}
-use Rattle.initialisation.specs.Hearing.{Call, Taken, Heard, hearing_refusal, sent, vst, vst_for, reply_to, heard_of}
+use Rattle.initialisation.specs.declared.hearing.Taken.{Taken}
+use Rattle.initialisation.specs.Hearing.{Call, Heard, hearing_refusal, sent, vst, vst_for, reply_to, heard_of}
 use Rattle.initialisation.proofs.Theorems.{hears}
-use Rattle.exports.specs.declared.link_calls.Offer.{Offer}
-use Rattle.exports.specs.declared.link_calls.Offer.TheVariants as offer
 use Rattle.exports.specs.LinkCalls.{change_number, reply_number, Effect, heard_effect, offer_of, Brought, call_of, offered_effect, read_effect, ChangeSays, ReplySays, OfferSays, BstSays, UnpackingRelease, UnpackingTick, UnpackingBst}
 use Rattle.exports.proofs.Saying.{says, says_refused}
 use Rattle.exports.proofs.ReadingBack.{read_refused}
@@ -49,9 +49,9 @@ module _ (c : Call) where
   unfolding hearing_refusal numbers_to
   refusal_small = first_le 26 _ refl
 
-  vst_sent : (t : Taken) → eqb (hearing_refusal c) 0 ≡ true → sent c ≡ found t → (heard_of c).reply ≡ vst (size (vst_for t c.marks c.configuration))
+  vst_sent : (t : Taken) → eqb (hearing_refusal c) 0 ≡ true → sent c ≡ Some t → (heard_of c).reply ≡ vst (size (vst_for t c.marks c.configuration))
   unfolding heard_of
-  vst_sent t e f = rw e (ap (λ (x : Found Taken). reply_to x c.marks c.configuration) f)
+  vst_sent t e f = rw e (ap (λ (x : Option Taken). reply_to x c.marks c.configuration) f)
 
   reply_says : ReplySays (reply_number (heard_of c).reply) (heard_of c).reply
   unfolding heard_of reply_number ReplySays
@@ -59,16 +59,16 @@ module _ (c : Call) where
       by_test (λ (h : Heard). ReplySays (reply_number h.reply) h.reply) (eqb (hearing_refusal c) 0) (λ t. go t (sent c) refl)
       (λ t. says_refused (hearing_refusal c) 0 t (omega (arith, refusal_small)) (omega arith))
     where
-      go : eqb (hearing_refusal c) 0 ≡ true → (f : Found Taken) → sent c ≡ f
+      go : eqb (hearing_refusal c) 0 ≡ true → (f : Option Taken) → sent c ≡ f
           → let x = reply_to f c.marks c.configuration in ReplySays (reply_number x) x
-      go t nothing e = says 0 0 0 (omega arith) (omega arith) (omega arith)
-      go t (found taken) e = says 0 1 (size (vst_for taken c.marks c.configuration)) (omega arith) (omega arith) ((hears c).sent _ (vst_sent taken t e)).short
+      go t None e = says 0 0 0 (omega arith) (omega arith) (omega arith)
+      go t (Some taken) e = says 0 1 (size (vst_for taken c.marks c.configuration)) (omega arith) (omega arith) ((hears c).sent _ (vst_sent taken t e)).short
 
 module _ (b : Brought) (s : List ℕ) (lists : Lists) where
-  offer_says : (o : Offer) → OfferSays (offered_effect b s lists o).number b s lists o
+  offer_says : (o : Option Bst) → OfferSays (offered_effect b s lists o).number b s lists o
   unfolding offered_effect heard_effect OfferSays
-  offer_says offer.Other = says_refused 23 0 refl (omega arith) (omega arith)
-  offer_says (offer.Offered bst) = reply_says (call_of b s lists bst)
+  offer_says None = says_refused 23 0 refl (omega arith) (omega arith)
+  offer_says (Some bst) = reply_says (call_of b s lists bst)
 
   bst_says : (end : ℕ) (a : reader.Answer) → told s lists end a ≡ read_message s → BstSays (read_effect b s lists a).number b s lists a
   unfolding told read_effect BstSays

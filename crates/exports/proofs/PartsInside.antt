@@ -10,6 +10,7 @@ use lib.Dec.{eqb, ltb}
 use lib.ListN.{get_or, take, drop}
 use lib.Seq.{get_or-drop, take-add}
 use borrow.Author.Tests.{eqb-true, ltb-true, ltb-false}
+use Rattle.std.specs.Prelude.{Option, Some, None}
 use Rattle.refusals.specs.Check.{pick}
 use Rattle.refusals.proofs.Tests.{by_cases, and_true}
 use Rattle.bits.specs.Strings.{is_inside}
@@ -31,24 +32,32 @@ pub first_there_law : (p b rest : Bool) → (sound_if p b && rest) ≡ true → 
 first_there_law p b rest e h = if_there p b (both (sound_if p b) rest e).0 h
 
 module _ (octets : ℕ) where
-  abbrev pub Inside : StringPart → Type 0
-  Inside p = p.present ≡ true → is_inside octets p.start p.length ≡ true
+  abbrev pub Inside : Option StringPart → Type 0
+  Inside None = Unit {0}
+  Inside (Some p) = is_inside octets p.start p.length ≡ true
+
+  -- one that is inside where it is present
+  pub inside_if : (present : Bool) (start n : ℕ) → (present ≡ true → is_inside octets start n ≡ true) → Inside (part present start n)
+  inside_if true start n h = h refl
+  inside_if false start n h = tt
 
   -- ---- containers
 
   part_inside : (kind n start : ℕ) → part_fits octets kind n start ≡ true → Inside (part (eqb kind octet_string) start n)
   unfolding part_fits
-  part_inside kind n start e h = rw h at e
+  part_inside kind n start e = inside_if (eqb kind octet_string) start n (λ h. rw h at e)
 
   -- one that is there, or has kind 0
   pub container_inside : (has : Bool) (kind n start : ℕ) (rest : List ℕ) (own : List Row) → sound_if has (container_sound octets kind n start own) ≡ true
       → Absent has (kind ∷ rest) → Inside (part (eqb kind octet_string) start n)
   unfolding container_sound
-  container_inside has kind n start rest own e a h =
+  container_inside has kind n start rest own e a =
       let c = container_sound octets kind n start own in
       by_cases has
-      (λ t. part_inside kind n start (both (part_fits octets kind n start) (rows_sound octets (nested kind n) own) (if_there has c e t)).0 h)
-      (λ f. let z : kind ≡ 0 = (a.are f).0 in let k : kind ≡ 2 = eqb-true kind octet_string h in absurd (omega arith))
+      (λ t. part_inside kind n start (both (part_fits octets kind n start) (rows_sound octets (nested kind n) own) (if_there has c e t)).0)
+      (λ f.
+      inside_if (eqb kind octet_string) start n
+      (λ h. let z : kind ≡ 0 = (a.are f).0 in let k : kind ≡ 2 = eqb-true kind octet_string h in absurd (omega arith)))
 
   -- and its rows
   pub list_fits : (n : ℕ) (own : List Row) → rows_sound octets n own ≡ true → parts_fit octets own ≡ true
@@ -62,7 +71,7 @@ module _ (octets : ℕ) where
   -- ---- rows
 
   empty_row_law : Inside (row_string empty_row)
-  empty_row_law h = never h
+  empty_row_law = tt
 
   row_at : (used : ℕ) (rs : List Row) (j : ℕ) → parts_fit octets (take used rs) ≡ true → j < used → Inside (row_string (get_or rs j empty_row))
   unfolding parts_fit
@@ -98,7 +107,7 @@ module _ (octets : ℕ) where
   -- ---- entries
 
   empty_entry_law : Inside (entry_string empty_entry)
-  empty_entry_law h = never h
+  empty_entry_law = tt
 
   entry_at : (n : ℕ) (es : List Entry) (rs : List Row) (j : ℕ) → entries_sound octets (take n es) rs ≡ true → entry_tidy (get_or es j empty_entry) → j < n
       → Inside (entry_string (get_or es j empty_entry))

@@ -8,6 +8,7 @@ use native.Mathlib.Omega.{arith}
 use lib.Dec.{eqb, leb, ltb}
 use lib.ListN.{length, take, drop}
 use borrow.Author.Tests.{le-leb, lt-leb}
+use Rattle.std.specs.Prelude.{Option, Some, None}
 use Rattle.refusals.specs.Check.{pick}
 use Rattle.refusals.proofs.Tests.{by_test}
 use Rattle.bits.specs.Strings.{is_inside, string_at, copy_fits, copy_string}
@@ -29,8 +30,8 @@ use Rattle.apdu_reading.specs.declared.front.Answer.TheVariants as answer
 use Rattle.apdu_reading.specs.Answers.{told, outcome_of, tidy_by, sound_by}
 use Rattle.words.specs.Answer.{Says, SaysRefused}
 use Rattle.exports.specs.declared.strings.StringPart.{StringPart}
-use Rattle.exports.specs.Strings.{credentials_in, parameter_in, string_part, string_number, string_output, field_number, field_output, StringTold, FieldTold, EachString}
-use Rattle.exports.proofs.PartsInside.{Inside, first_there_law, container_inside, list_fits, RowsInside, rows_inside, no_rows, rows_if, own_rows, EntriesInside, no_entries_law, list_rows_law, list_entries, joined}
+use Rattle.exports.specs.Strings.{credentials_in, parameter_in, string_part, string_number, string_output, field_number, field_output, PartTold, FieldTold, EachString}
+use Rattle.exports.proofs.PartsInside.{Inside, inside_if, first_there_law, container_inside, list_fits, RowsInside, rows_inside, no_rows, rows_if, own_rows, EntriesInside, no_entries_law, list_rows_law, list_entries, joined}
 use Rattle.exports.proofs.Saying.{says, says_refused}
 use Rattle.exports.proofs.ReadingBack.{message_short, read_refused}
 
@@ -39,16 +40,16 @@ use Rattle.exports.proofs.ReadingBack.{message_short, read_refused}
 module _ (octets : ℕ) (es : List Entry) (rs : List Row) where
   credentials_inside : (m : Message) → sound octets m es rs ≡ true → Inside octets (credentials_in m)
   unfolding sound request_sound set_request_sound get_request_sound
-  credentials_inside (kind.ActionRequest m) e h = first_there_law m.has_credentials _ _ e h
-  credentials_inside (kind.ActionResponse m) e h = never h
-  credentials_inside (kind.EventRequest m) e h = first_there_law m.has_credentials _ _ e h
-  credentials_inside (kind.EventResponse m) e h = never h
-  credentials_inside (kind.SetRequest m) e h = first_there_law m.has_credentials _ _ e h
-  credentials_inside (kind.SetResponse m) e h = never h
-  credentials_inside (kind.GetRequest m) e h = first_there_law m.has_credentials _ _ e h
-  credentials_inside (kind.GetResponse m) e h = never h
-  credentials_inside (kind.Bst m) e h = never h
-  credentials_inside (kind.Vst m) e h = never h
+  credentials_inside (kind.ActionRequest m) e = inside_if octets m.has_credentials _ _ (first_there_law m.has_credentials _ _ e)
+  credentials_inside (kind.ActionResponse m) e = tt
+  credentials_inside (kind.EventRequest m) e = inside_if octets m.has_credentials _ _ (first_there_law m.has_credentials _ _ e)
+  credentials_inside (kind.EventResponse m) e = tt
+  credentials_inside (kind.SetRequest m) e = inside_if octets m.has_credentials _ _ (first_there_law m.has_credentials _ _ e)
+  credentials_inside (kind.SetResponse m) e = tt
+  credentials_inside (kind.GetRequest m) e = inside_if octets m.has_credentials _ _ (first_there_law m.has_credentials _ _ e)
+  credentials_inside (kind.GetResponse m) e = tt
+  credentials_inside (kind.Bst m) e = tt
+  credentials_inside (kind.Vst m) e = tt
 
   request_second : (m : Request) → request_sound octets m rs ≡ true
       → sound_if m.has_parameter (container_sound octets m.kind m.n m.start (take m.rows rs)) ≡ true
@@ -62,13 +63,13 @@ module _ (octets : ℕ) (es : List Entry) (rs : List Row) where
   parameter_inside (kind.ActionRequest m) e t = container_inside octets m.has_parameter m.kind _ _ _ _ (request_second m e) t.0.1
   parameter_inside (kind.ActionResponse m) e t = container_inside octets m.has_parameter m.kind _ _ _ _ e t.0.1
   parameter_inside (kind.EventRequest m) e t = container_inside octets m.has_parameter m.kind _ _ _ _ (request_second m e) t.0.1
-  parameter_inside (kind.EventResponse m) e t = λ h. never h
-  parameter_inside (kind.SetRequest m) e t = λ h. never h
-  parameter_inside (kind.SetResponse m) e t = λ h. never h
-  parameter_inside (kind.GetRequest m) e t = λ h. never h
-  parameter_inside (kind.GetResponse m) e t = λ h. never h
-  parameter_inside (kind.Bst m) e t = λ h. never h
-  parameter_inside (kind.Vst m) e t = λ h. never h
+  parameter_inside (kind.EventResponse m) e t = tt
+  parameter_inside (kind.SetRequest m) e t = tt
+  parameter_inside (kind.SetResponse m) e t = tt
+  parameter_inside (kind.GetRequest m) e t = tt
+  parameter_inside (kind.GetResponse m) e t = tt
+  parameter_inside (kind.Bst m) e t = tt
+  parameter_inside (kind.Vst m) e t = tt
 
   bst_sound_law : (m : Bst) → bst_sound octets m es rs ≡ true → Absent m.has_others (m.others ∷ [])
       → entries_sound octets (take (m.mandatory + m.others) es) rs ≡ true
@@ -118,39 +119,32 @@ string_inside octets m l field e t =
     by_test (Inside octets) (eqb field 1) (λ b. parameter_inside octets l.entries l.rows m e t)
     (λ b.
     by_test (Inside octets) (ltb field 34) (λ b. i.0 (field - 2))
-    (λ b. by_test (Inside octets) (ltb field 66) (λ b. i.1 (field - 34)) (λ b h. never h))))
+    (λ b. by_test (Inside octets) (ltb field 66) (λ b. i.1 (field - 34)) (λ b. tt))))
 
 -- ---- what is answered
 
-module _ (s : List ℕ) (p : StringPart) (out : List ℕ) where
-  -- no such string
-  absent : p.present ≡ false → Says (string_number s p out) 0 0 0 0 × (string_output s p out ≡ out)
-  unfolding string_number string_output
-  absent none = (rw none (says 0 0 0 (omega arith) (omega arith) (omega arith)), rw none)
+module _ (s : List ℕ) (p : StringPart) (out : List ℕ) (inside : is_inside (length s) p.start p.length ≡ true) (short : length s ≤ 512) where
+  output_small : length out < p.length → SaysRefused (string_number s (Some p) out) 22 0 × (string_output s (Some p) out ≡ out)
+  unfolding string_number string_output copy_string copy_fits
+  output_small h =
+      let f : leb (0 + p.length) (length out) ≡ false = lt-leb (0 + p.length) (length out) (omega arith) in
+      (rw (inside, f) (says_refused 22 0 refl (omega arith) (omega arith)), rw (inside, f))
 
-  module _ (here : p.present ≡ true) (inside : is_inside (length s) p.start p.length ≡ true) (short : length s ≤ 512) where
-    output_small : length out < p.length → SaysRefused (string_number s p out) 22 0 × (string_output s p out ≡ out)
-    unfolding string_number string_output copy_string copy_fits
-    output_small h =
-        let f : leb (0 + p.length) (length out) ≡ false = lt-leb (0 + p.length) (length out) (omega arith) in
-        (rw (here, inside, f) (says_refused 22 0 refl (omega arith) (omega arith)), rw (here, inside, f))
+  output_large : p.length ≤ length out
+      → Says (string_number s (Some p) out) 0 1 p.length 0 × (string_output s (Some p) out ≡ string_at s p.start p.length ++ drop p.length out)
+  unfolding string_number string_output copy_string copy_fits
+  output_large h =
+      let z : 0 + p.length ≡ p.length = omega arith in
+      let f : leb (0 + p.length) (length out) ≡ true = le-leb (0 + p.length) (length out) (omega arith) in
+      let n : p.length ≤ 512 = omega (arith, inside_le (length s) p.start p.length inside) in (
+        rw (inside, f) (says 0 1 p.length (omega arith) (omega arith) n),
+        rw (inside, f) (ap (λ (k : ℕ). string_at s p.start p.length ++ drop k out) z),
+      )
 
-    output_large : p.length ≤ length out
-        → Says (string_number s p out) 0 1 p.length 0 × (string_output s p out ≡ string_at s p.start p.length ++ drop p.length out)
-    unfolding string_number string_output copy_string copy_fits
-    output_large h =
-        let z : 0 + p.length ≡ p.length = omega arith in
-        let f : leb (0 + p.length) (length out) ≡ true = le-leb (0 + p.length) (length out) (omega arith) in
-        let n : p.length ≤ 512 = omega (arith, inside_le (length s) p.start p.length inside) in (
-          rw (here, inside, f) (says 0 1 p.length (omega arith) (omega arith) n),
-          rw (here, inside, f) (ap (λ (k : ℕ). string_at s p.start p.length ++ drop k out) z),
-        )
-
-  part_told : Inside (length s) p → length s ≤ 512
-      → pick p.present (StringTold s p out (string_number s p out) (string_output s p out)) (Says (string_number s p out) 0 0 0 0 × (string_output s p out ≡ out))
-  part_told inside short =
-      by_test (λ (T : Type 0). T) p.present
-      (λ here. record { small = output_small here (inside here) short; large = output_large here (inside here) short }) absent
+part_told : (s : List ℕ) (p : Option StringPart) (out : List ℕ) → Inside (length s) p → length s ≤ 512 → PartTold s p out (string_number s p out) (string_output s p out)
+unfolding string_number string_output
+part_told s None out inside short = (says 0 0 0 (omega arith) (omega arith) (omega arith), refl)
+part_told s (Some p) out inside short = record { small = output_small s p out inside short; large = output_large s p out inside short }
 
 module _ (s : List ℕ) (l : Lists) (end field : ℕ) (out : List ℕ) where
   field_told : (a : Answer) → told s l end a ≡ read_message s → tidy_by l end a → sound_by (length s) l a

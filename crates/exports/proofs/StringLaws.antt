@@ -6,6 +6,7 @@ use mathlib.Core.List.{List}
 use lib.ListN.{get_or}
 use borrow.Author.Tests.{eq-eqb, ne_eqb, lt-ltb, le-ltb, not-true, not-false}
 use Rattle.bits.specs.Strings.{copy_fits, copy_string}
+use Rattle.std.specs.Prelude.{Option, None}
 use Rattle.apdu.specs.declared.lists.Lists.{Lists}
 use Rattle.apdu.specs.declared.records.Message.{Message}
 use Rattle.apdu.specs.Values.{empty_row, empty_entry}
@@ -15,11 +16,11 @@ use Rattle.apdu_reading.specs.Answers.{Reads}
 use Rattle.words.specs.Answer.{answer_number}
 use Rattle.exports.specs.declared.strings.StringPart.{StringPart}
 use Rattle.exports.specs.Messages.{refusal_number, refusal_at}
-use Rattle.exports.specs.Strings.{no_string, credentials_in, parameter_in, row_string, entry_string, string_part, string_number, string_output, field_number, field_output, StringGives}
+use Rattle.exports.specs.Strings.{credentials_in, parameter_in, row_string, entry_string, string_part, string_number, string_output, field_number, field_output, StringGives}
 
 -- ---- which part
 
-module _ (m : Message) (l : Lists) (field : ℕ) {p : StringPart} where
+module _ (m : Message) (l : Lists) (field : ℕ) {p : Option StringPart} where
   pub part_credentials : field ≡ 0 → p ≡ credentials_in m → p ≡ string_part m l field
   unfolding string_part
   part_credentials e q = simp (eq-eqb _ _ e) q
@@ -39,31 +40,9 @@ module _ (m : Message) (l : Lists) (field : ℕ) {p : StringPart} where
         unfolding string_part
         part_entry h q = simp (ne_eqb _ _ a, ne_eqb _ _ b, le-ltb _ _ d, lt-ltb _ _ h) q
 
-        pub part_none : 66 ≤ field → p ≡ no_string → p ≡ string_part m l field
+        pub part_none : 66 ≤ field → p ≡ None → p ≡ string_part m l field
         unfolding string_part
         part_none h q = simp (ne_eqb _ _ a, ne_eqb _ _ b, le-ltb _ _ d, le-ltb _ _ h) q
-
--- ---- giving it
-
-module _ (s : List ℕ) (p : StringPart) (out : List ℕ) {r : ℕ} where
-  pub give_none : not p.present ≡ true → r ≡ answer_number 0 0 0 0 → (r ≡ string_number s p out) × (out ≡ string_output s p out)
-  unfolding string_number string_output
-  give_none n q = let h : p.present ≡ false = not-true p.present n in (rw h q, rw h refl)
-
-  module _ (n : not p.present ≡ false) {b : Bool} {out' : List ℕ} (e : (b ≡ copy_fits s p.start p.length out 0) × (out' ≡ copy_string s p.start p.length out 0)) where
-    pub give_all : b ≡ true → r ≡ answer_number 0 1 p.length 0 → (r ≡ string_number s p out) × (out' ≡ string_output s p out)
-    unfolding string_number string_output
-    give_all t q =
-        let h : p.present ≡ true = not-false p.present n in
-        let f : copy_fits s p.start p.length out 0 ≡ true = sym e.0 ∙ t in
-        (rw (h, f) q, rw h e.1)
-
-    pub give_small : b ≡ false → r ≡ refusal_number 22 → (r ≡ string_number s p out) × (out' ≡ string_output s p out)
-    unfolding string_number string_output
-    give_small t q =
-        let h : p.present ≡ true = not-false p.present n in
-        let f : copy_fits s p.start p.length out 0 ≡ false = sym e.0 ∙ t in
-        (rw (h, f) q, rw h e.1)
 
 -- ---- the call
 
@@ -72,13 +51,13 @@ module _ (s : List ℕ) (field : ℕ) (out : List ℕ) (g : Reading) (e : Reads 
   unfolding field_number field_output
   string_refused k p a q = record { reading = g; reads = e; is = rw a q; output_is = rw a refl }
 
-  pub string_given : (m : Message) {p : StringPart} {r : ℕ} {out' : List ℕ} → g.answer ≡ answer.Message m → p ≡ string_part m g.lists field
+  pub string_given : (m : Message) {p : Option StringPart} {r : ℕ} {out' : List ℕ} → g.answer ≡ answer.Message m → p ≡ string_part m g.lists field
       → (r ≡ string_number s p out) × (out' ≡ string_output s p out) → StringGives s field out r out'
   unfolding field_number field_output
   string_given m a i q =
       record {
         reading = g;
         reads = e;
-        is = rw a (q.0 ∙ ap (λ (p : StringPart). string_number s p out) i);
-        output_is = rw a (q.1 ∙ ap (λ (p : StringPart). string_output s p out) i);
+        is = rw a (q.0 ∙ ap (λ (p : Option StringPart). string_number s p out) i);
+        output_is = rw a (q.1 ∙ ap (λ (p : Option StringPart). string_output s p out) i);
       }

@@ -2,7 +2,7 @@
 -- call there. Words that are no link are one out of range (23). A BST call reads its message first: reading's refusal, then 23 for a message that is no BST,
 -- since there is no BST record then; then the checks of the call.
 -- Assumes nothing.
-use Rattle.std.specs.Prelude.{ℕ, ◌≡◌, List}
+use Rattle.std.specs.Prelude.{ℕ, ◌≡◌, Option, Some, None, List}
 use Rattle.refusals.specs.Check.{Answer, refused, accepted}
 use Rattle.apdu.specs.declared.lists.Lists.{Lists}
 use Rattle.apdu.specs.declared.records.Bst.{Bst}
@@ -20,8 +20,6 @@ use Rattle.initialisation.specs.Hearing as hearing
 use Rattle.initialisation.specs.Hearing.{Call, call, heard_of}
 use Rattle.words.specs.Answer.{answer_number, Says, SaysRefused}
 use Rattle.words.specs.LinkWords.{with_link, link_in}
-use Rattle.exports.specs.declared.link_calls.Offer.{Offer}
-use Rattle.exports.specs.declared.link_calls.Offer.TheVariants as offer
 use Rattle.exports.specs.Messages.{refusal_number, refusal_at}
 
 -- ---- release and tick
@@ -66,17 +64,17 @@ unfoldable pub heard_effect : List ℕ → Call → Effect
 heard_effect words c = effect (reply_number (heard_of c).reply) (reply_words (heard_of c).reply (heard_of c).link words) (heard_of c).out
 
 -- the BST record of a message, if it is one
-abbrev pub offer_of : Message → Offer
-offer_of (kind.ActionRequest m) = offer.Other
-offer_of (kind.ActionResponse m) = offer.Other
-offer_of (kind.EventRequest m) = offer.Other
-offer_of (kind.EventResponse m) = offer.Other
-offer_of (kind.SetRequest m) = offer.Other
-offer_of (kind.SetResponse m) = offer.Other
-offer_of (kind.GetRequest m) = offer.Other
-offer_of (kind.GetResponse m) = offer.Other
-offer_of (kind.Bst m) = offer.Offered m
-offer_of (kind.Vst m) = offer.Other
+abbrev pub offer_of : Message → Option Bst
+offer_of (kind.ActionRequest m) = None
+offer_of (kind.ActionResponse m) = None
+offer_of (kind.EventRequest m) = None
+offer_of (kind.EventResponse m) = None
+offer_of (kind.SetRequest m) = None
+offer_of (kind.SetResponse m) = None
+offer_of (kind.GetRequest m) = None
+offer_of (kind.GetResponse m) = None
+offer_of (kind.Bst m) = Some m
+offer_of (kind.Vst m) = None
 
 -- what an export brings besides the message; `words` are the link's
 pub record Brought : Type 0 where
@@ -95,9 +93,9 @@ brought words tick lid own marks k out =
 abbrev pub call_of : Brought → List ℕ → Lists → Bst → Call
 call_of b s lists bst = call (link_in b.words) bst lists s b.tick b.lid b.own b.marks b.configuration b.out
 
-unfoldable pub offered_effect : Brought → List ℕ → Lists → Offer → Effect
-offered_effect b s lists offer.Other = effect (refusal_number 23) b.words b.out
-offered_effect b s lists (offer.Offered bst) = heard_effect b.words (call_of b s lists bst)
+unfoldable pub offered_effect : Brought → List ℕ → Lists → Option Bst → Effect
+offered_effect b s lists None = effect (refusal_number 23) b.words b.out
+offered_effect b s lists (Some bst) = heard_effect b.words (call_of b s lists bst)
 
 unfoldable pub read_effect : Brought → List ℕ → Lists → reader.Answer → Effect
 read_effect b s lists (answer.Refused k p) = effect (refusal_at k p) b.words b.out
@@ -120,9 +118,9 @@ ReplySays r (hearing.refused k) = SaysRefused r k 0
 ReplySays r hearing.silent = Says r 0 0 0 0
 ReplySays r (hearing.vst n) = Says r 0 1 n 0
 
-unfoldable pub OfferSays : (r : ℕ) → Brought → List ℕ → Lists → Offer → Type 0
-OfferSays r b s lists offer.Other = SaysRefused r 23 0
-OfferSays r b s lists (offer.Offered bst) = ReplySays r (heard_of (call_of b s lists bst)).reply
+unfoldable pub OfferSays : (r : ℕ) → Brought → List ℕ → Lists → Option Bst → Type 0
+OfferSays r b s lists None = SaysRefused r 23 0
+OfferSays r b s lists (Some bst) = ReplySays r (heard_of (call_of b s lists bst)).reply
 
 unfoldable pub BstSays : (r : ℕ) → Brought → List ℕ → Lists → reader.Answer → Type 0
 BstSays r b s lists (answer.Refused k p) = SaysRefused r k p
@@ -130,9 +128,9 @@ BstSays r b s lists (answer.Message m) = OfferSays r b s lists (offer_of m)
 
 -- ---- the link after a BST call
 
-unfoldable pub offered_link : Brought → List ℕ → Lists → Offer → Link
-offered_link b s lists offer.Other = link_in b.words
-offered_link b s lists (offer.Offered bst) = (heard_of (call_of b s lists bst)).link
+unfoldable pub offered_link : Brought → List ℕ → Lists → Option Bst → Link
+offered_link b s lists None = link_in b.words
+offered_link b s lists (Some bst) = (heard_of (call_of b s lists bst)).link
 
 unfoldable pub heard_link : Brought → List ℕ → Lists → reader.Answer → Link
 heard_link b s lists (answer.Refused k p) = link_in b.words

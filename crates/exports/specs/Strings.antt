@@ -1,7 +1,8 @@
 -- The octets of a string of a message by the string's number: 0 the credentials, 1 the parameter, 2 to 33 the attribute rows in the order of the message, 34
 -- to 65 the parameters of its application entries. An absent container has kind 0, so a parameter is a string just where its kind is 2.
 -- Assumes nothing.
-use Rattle.std.specs.Prelude.{ℕ, ◌-◌, ◌≤◌, ◌<◌, Bool, ◌≡◌, Option, Some, None, List, ◌++◌, eqb, ltb, length, get_or, drop, then_some}
+use Rattle.std.specs.Prelude.{ℕ, ◌-◌, ◌≤◌, ◌<◌, Bool, ◌≡◌, Option, Some, None, List, ◌++◌, eqb, ltb, length, get_or, drop}
+use Rattle.std.specs.Bool.{then_some}
 use Rattle.refusals.specs.Check.{pick}
 use Rattle.bits.specs.Strings.{string_at, copy_fits, copy_string}
 use Rattle.apdu_format.specs.Component.{octet_string}

@@ -1,30 +1,31 @@
 // The tag's link, in six words, all zero at first.
 ghost use Rattle.std.specs.Prelude.{◌≡◌};
 ghost use Rattle.initialisation.specs.Link.{answer_of, release_of, tick_of};
-ghost use Rattle.initialisation.specs.Hearing.{reply_of, call};
+ghost use Rattle.initialisation.specs.Hearing.{call};
 ghost use Rattle.words.specs.LinkWords.{link_in};
 ghost use Rattle.words.specs.ElementWords.{elements_in};
-ghost use Rattle.exports.specs.LinkCalls.{change_number, change_words, ChangeGives, reply_number, reply_words, effect, heard_effect, offer_of, brought, BstEffect};
+ghost use Rattle.exports.specs.LinkCalls.{change_number, change_words, ChangeGives, effect, heard_effect, brought, BstEffect};
 ghost use Rattle.exports.specs.LinkCalls.{UnpackingRelease, UnpackingTick, UnpackingBst, KeptReleased, KeptTicked, KeptHeard};
 
+use crate::refused::refused;
 use apdu::{Bst, Lists, Message};
 use apdu_reading::Answer;
-use initialisation::{BstAnswer, BstResult, Configuration, LinkAnswer, LinkResult};
+use initialisation::{Configuration, Link};
+use refusals::Refusal;
 use words::{elements_in, link_in, packed, put_link};
 
 // ---- release and tick
 
-fn changed(res: LinkResult, link: &mut [u32]) -> u64
-    ensures { (result ≡ change_number (answer_of res.answer)) × (link.new ≡ change_words (answer_of res.answer) res.link link.old) }
+// Puts the link that a call leaves; after a refusal the words stay as they were.
+fn changed(answer: Result<(), Refusal>, after: Link, link: &mut [u32]) -> u64
+    ensures { (result ≡ change_number (answer_of answer)) × (link.new ≡ change_words (answer_of answer) after link.old) }
 {
-    let answer = res.answer;
-    let after = res.link;
     match answer {
-        LinkAnswer::Done => {
+        Ok(()) => {
             put_link(after, link);
             packed(0, 0, 0, 0)
         }
-        LinkAnswer::Refused(number) => packed(number, 0, 0, 0),
+        Err(refusal) => refused(refusal),
     }
 }
 
@@ -35,8 +36,9 @@ pub extern "C" fn semuryeon_link_release(lid: u32, link: &mut [u32]) -> u64
     ensures unpacking { UnpackingRelease }
     ensures kept { KeptReleased }
 {
-    let result = initialisation::release(link_in(link), lid);
-    changed(result, link)
+    let mut after = link_in(link);
+    let answer = initialisation::release(&mut after, lid);
+    changed(answer, after, link)
 }
 
 // A tick passes. Refused 23.
@@ -46,53 +48,12 @@ pub extern "C" fn semuryeon_link_tick(tick: u32, link: &mut [u32]) -> u64
     ensures unpacking { UnpackingTick }
     ensures kept { KeptTicked }
 {
-    let result = initialisation::tick(link_in(link), tick);
-    changed(result, link)
+    let mut after = link_in(link);
+    let answer = initialisation::tick(&mut after, tick);
+    changed(answer, after, link)
 }
 
 // ---- BST
-
-// The BST that a message is, if it is one.
-#[derive(Clone, Copy)]
-pub(crate) enum Offer {
-    Offered(Bst),
-    Other,
-}
-
-fn offer_of(m: Message) -> Offer
-    ensures { result ≡ offer_of m }
-{
-    match m {
-        Message::ActionRequest(_) => Offer::Other,
-        Message::ActionResponse(_) => Offer::Other,
-        Message::EventRequest(_) => Offer::Other,
-        Message::EventResponse(_) => Offer::Other,
-        Message::SetRequest(_) => Offer::Other,
-        Message::SetResponse(_) => Offer::Other,
-        Message::GetRequest(_) => Offer::Other,
-        Message::GetResponse(_) => Offer::Other,
-        Message::Bst(bst) => Offer::Offered(bst),
-        Message::Vst(_) => Offer::Other,
-    }
-}
-
-fn replied(res: BstResult, link: &mut [u32]) -> u64
-    ensures { (result ≡ reply_number (reply_of res.answer)) × (link.new ≡ reply_words (reply_of res.answer) res.link link.old) }
-{
-    let answer = res.answer;
-    let after = res.link;
-    match answer {
-        BstAnswer::Silent => {
-            put_link(after, link);
-            packed(0, 0, 0, 0)
-        }
-        BstAnswer::Vst(octets) => {
-            put_link(after, link);
-            packed(0, 1, octets, 0)
-        }
-        BstAnswer::Refused(number) => packed(number, 0, 0, 0),
-    }
-}
 
 fn hear(
     s: &[u8],
@@ -108,8 +69,9 @@ fn hear(
 ) -> u64
     ensures { effect result link.new out.new ≡ heard_effect link.old (call (link_in link.old) bst lists s.now tick lid (elements_in elements.now) marks.now configuration out.old) }
 {
-    let result = initialisation::hear_bst(
-        link_in(link),
+    let mut after = link_in(link);
+    let answer = initialisation::hear_bst(
+        &mut after,
         bst,
         lists,
         s,
@@ -120,7 +82,17 @@ fn hear(
         configuration,
         out,
     );
-    replied(result, link)
+    match answer {
+        Ok(None) => {
+            put_link(after, link);
+            packed(0, 0, 0, 0)
+        }
+        Ok(Some(octets)) => {
+            put_link(after, link);
+            packed(0, 1, octets, 0)
+        }
+        Err(refusal) => refused(refusal),
+    }
 }
 
 // The tag hears the BST that `s` is: kind 0 is silent, 1 a VST at the front of `out`, whose octets are first. Elements are four words each (eid, AID, start and
@@ -143,34 +115,27 @@ pub extern "C" fn semuryeon_link_bst(
     ensures kept { KeptHeard }
 {
     let reading = apdu_reading::read(s);
-    let answer = reading.answer;
-    let lists = reading.lists;
-    match answer {
+    match reading.answer {
         Answer::Refused(number, position) => packed(number, 0, position, 0),
-        Answer::Message(m) => {
-            let offer = offer_of(m);
-            match offer {
-                Offer::Other => packed(refusals::RECORD_OUT_OF_RANGE, 0, 0, 0),
-                Offer::Offered(bst) => {
-                    let configuration = Configuration {
-                        class: class as u64,
-                        maker: maker as u64,
-                        status: status as u64,
-                    };
-                    hear(
-                        s,
-                        bst,
-                        lists,
-                        tick,
-                        lid,
-                        link,
-                        elements,
-                        marks,
-                        configuration,
-                        out,
-                    )
-                }
-            }
+        Answer::Message(Message::Bst(bst)) => {
+            let configuration = Configuration {
+                class: u64::from(class),
+                maker: u64::from(maker),
+                status: u64::from(status),
+            };
+            hear(
+                s,
+                bst,
+                reading.lists,
+                tick,
+                lid,
+                link,
+                elements,
+                marks,
+                configuration,
+                out,
+            )
         }
+        Answer::Message(_) => refused(Refusal::RecordOutOfRange),
     }
 }

@@ -1,6 +1,0 @@
--- `exports::attribute_calls::semuryeon_request` meets its contract: the call of the rows that the words are. Assumes nothing.
-use Rattle.exports.proofs.AttributeNumbers.{unpacking_request}
-use Rattle.exports.proofs.attribute_calls.semuryeon_request.Goals as goal
-
-pub returns : goal.returns
-returns c = record { answer = rw (← c.directory_in-d.ensures.answer) (record { call = c.request_among-result.result; answered = c.request_among-result.ensures.answer; is = c.told.ensures }); unpacking = unpacking_request }
