@@ -7,20 +7,22 @@ use native.Mathlib.Omega.{arith}
 use lib.ListN.{length, take, length-drop}
 use lib.Dec.{ltb, leb}
 use borrow.Author.Tests.{leb-true, le-leb, lt-ltb, le-ltb}
+use Rattle.std.specs.Prelude.{Result, Ok, Err, is_ok}
+use Rattle.std.specs.Result.{result_unwrap_or}
 use Rattle.refusals.specs.Check.{pick, Answer, refused, accepted}
+use Rattle.refusals.specs.declared.Refusal.{Refusal}
+use Rattle.refusals.specs.Refusal.{number_of, answer_of}
 use Rattle.slots.specs.declared.Table.{Table}
-use Rattle.reassembly.specs.declared.FragmentAnswer.{FragmentAnswer}
-use Rattle.reassembly.specs.declared.FragmentAnswer.TheVariants as fragment
+use Rattle.reassembly.specs.declared.Accepted.{Accepted}
+use Rattle.reassembly.specs.declared.Accepted.TheVariants as fragment
 use Rattle.reassembly.specs.Engine.{fragment_answer}
-use Rattle.bench_lines.specs.declared.Appended.{Appended}
-use Rattle.bench_lines.specs.declared.Appended.TheVariants as appended
 use Rattle.bench_lines.specs.declared.BenchAnswer.{BenchAnswer}
 use Rattle.bench_lines.specs.declared.BenchAnswer.TheVariants as shown
-use Rattle.bench_lines.specs.declared.LineRead.{LineRead}
-use Rattle.bench_lines.specs.declared.LineRead.TheVariants as read
+use Rattle.bench_lines.specs.declared.Line.{Line}
+use Rattle.bench_lines.specs.declared.LineRefusal.{LineRefusal}
 use Rattle.slots.proofs.Tests.{and_l}
-use Rattle.bench_lines.specs.Line.{Fields, second_space, lsdu_text, all_hold, has_form, fields_of, read_line, line_answer, lsdu_after}
-use Rattle.bench_lines.specs.Text.{refused_word, answer_text, answer_line_text, written, has_room, append_text, appended_answer, output_after}
+use Rattle.bench_lines.specs.Line.{Fields, second_space, lsdu_text, all_hold, has_form, fields_of, read_line, line_refusal_number, line_answer, lsdu_after}
+use Rattle.bench_lines.specs.Text.{refused_word, answer_text, answer_line_text, written, has_room, append_text, output_after}
 use Rattle.bench_lines.proofs.Decimal.{width_u64}
 use Rattle.bench_lines.proofs.Appending.{length_named, length_line}
 use Rattle.bench_joining.specs.declared.Columns.{Columns}
@@ -29,7 +31,7 @@ use Rattle.bench_joining.specs.Joined.{columns_after, LineJoined, lsdu_of, LineT
 use Rattle.bench_joining.proofs.LineLaws.{line_joined, line_refused}
 use Rattle.words.specs.Answer.{answer_number, Says}
 use Rattle.words.specs.TableWords.{table_in}
-use Rattle.exports.specs.Fragments.{kept_words, is_taken}
+use Rattle.exports.specs.Fragments.{kept_words}
 use Rattle.exports.specs.BenchLine.{is_accepted, output_line, BenchLineExported, RoomForEach}
 use Rattle.exports.specs.Putting.{FragmentPut, LsduPut, LinePut}
 use Rattle.exports.proofs.Saying.{says}
@@ -42,25 +44,24 @@ pub line_short : (number : ℕ) (a : BenchAnswer) (octets dropped : ℕ) → num
 line_short number a octets dropped n o d h =
     omega (arith, length_line number a octets dropped refl refl refl refl, width_u64 number (omega arith), width_u64 octets (omega arith), width_u64 dropped (omega arith))
 
-module _ (text text' line : List ℕ) (a : Appended) (got : (appended_answer a ≡ append_text text 0 line) × (text' ≡ output_after (appended_answer a) text 0 line))
-    (room : length line ≤ length text) (short : length line ≤ 128) where
-  appended_all : appended_answer a ≡ accepted (0 + length line)
-  unfolding append_text has_room
-  appended_all = got.0 ∙ rw (le-leb (0 + length line) (length text) (omega arith))
+pub shown_all : (text text' line : List ℕ) (a : Result ℕ Refusal) → (answer_of a ≡ append_text text 0 line) × (text' ≡ output_after (answer_of a) text 0 line)
+    → length line ≤ length text → length line ≤ 128 → let n = result_unwrap_or a 0 in (n ≡ length line) × (text' ≡ written text 0 line) × (n ≤ 128)
+unfolding append_text has_room output_after
+shown_all text text' line a got room short = go a got
+  where
+    all : pick (leb (0 + length line) (length text)) (accepted (0 + length line)) (refused 22) ≡ accepted (0 + length line)
+    all = rw (le-leb (0 + length line) (length text) (omega arith))
 
-  pub shown_next : (n : ℕ) → a ≡ appended.Next n → (n ≡ length line) × (text' ≡ written text 0 line) × (n ≤ 128)
-  unfolding appended_answer output_after
-  shown_next n e =
-      let is : accepted n ≡ accepted (0 + length line) = sym (ap appended_answer e) ∙ appended_all in
-      let same : n ≡ 0 + length line = cc in
-      (omega arith, got.1 ∙ ap (λ (x : Answer ℕ). output_after x text 0 line) appended_all, omega arith)
-
-  pub shown_never : (k : ℕ) → a ≡ appended.Refused k → ⊥
-  unfolding appended_answer
-  shown_never k e =
-      let is : refused k ≡ accepted (0 + length line) = sym (ap appended_answer e) ∙ appended_all in
-      let z : ◌≡◌ {A = ℕ} 0 1 = cc in
-      omega arith
+    go : (a : Result ℕ Refusal) → (answer_of a ≡ append_text text 0 line) × (text' ≡ output_after (answer_of a) text 0 line)
+        → let n = result_unwrap_or a 0 in (n ≡ length line) × (text' ≡ written text 0 line) × (n ≤ 128)
+    go (Ok n) got =
+        let is : accepted n ≡ accepted (0 + length line) = got.0 ∙ all in
+        let same : n ≡ 0 + length line = cc in
+        (omega arith, got.1, omega arith)
+    go (Err r) got =
+        let is : refused (number_of r) ≡ accepted (0 + length line) = got.0 ∙ all in
+        let z : ◌≡◌ {A = ℕ} 0 1 = cc in
+        absurd (omega arith)
 
 -- ---- the answer that is shown
 
@@ -68,26 +69,26 @@ refused_short : (n : ℕ) → n < 2 ^ 8 → length (answer_text (shown.Refused n
 unfolding answer_text
 refused_short n h = omega (arith, length_named refused_word n 32, width_u64 n (omega arith))
 
-answer_short : (x : FragmentAnswer) (held payload : ℕ) → Small (fragment_answer x) → length (answer_text (columns_of x held payload).answer) ≤ 29
+answer_short : (x : Result Accepted Refusal) (held payload : ℕ) → Small (fragment_answer x) → length (answer_text (columns_of x held payload).answer) ≤ 29
 unfolding columns_of refused_columns refused_with answer_text
-answer_short (fragment.Held o d) held payload s = omega arith
-answer_short (fragment.Whole o d) held payload s = omega arith
-answer_short (fragment.Refused n) held payload s = go (ltb n 7)
+answer_short (Ok (fragment.Held o d)) held payload s = omega arith
+answer_short (Ok (fragment.Whole o d)) held payload s = omega arith
+answer_short (Err r) held payload s = go (ltb (number_of r) 7)
   where
-    go : (b : Bool) → length (answer_text (pick b (refused_with n 0) (refused_with n held)).answer) ≤ 29
-    go true = refused_short n s.1
-    go false = refused_short n s.1
+    go : (b : Bool) → length (answer_text (pick b (refused_with (number_of r) 0) (refused_with (number_of r) held)).answer) ≤ 29
+    go true = refused_short (number_of r) s.1
+    go false = refused_short (number_of r) s.1
 
-shown_short : (x : FragmentAnswer) (columns : Columns) (held payload : ℕ) → columns ≡ columns_of x held payload → Small (fragment_answer x) → length (answer_text columns.answer) ≤ 29
+shown_short : (x : Result Accepted Refusal) (columns : Columns) (held payload : ℕ) → columns ≡ columns_of x held payload → Small (fragment_answer x) → length (answer_text columns.answer) ≤ 29
 shown_short x columns held payload e s = omega (arith, ap (λ (c : Columns). length (answer_text c.answer)) e, answer_short x held payload s)
 
-accepted_is : (x : FragmentAnswer) (held payload : ℕ) → is_accepted (columns_of x held payload).answer ≡ is_taken x
-unfolding columns_of refused_columns refused_with is_accepted is_taken
-accepted_is (fragment.Held o d) held payload = refl
-accepted_is (fragment.Whole o d) held payload = refl
-accepted_is (fragment.Refused n) held payload = go (ltb n 7)
+accepted_is : (x : Result Accepted Refusal) (held payload : ℕ) → is_accepted (columns_of x held payload).answer ≡ is_ok x
+unfolding columns_of refused_columns refused_with is_accepted
+accepted_is (Ok (fragment.Held o d)) held payload = refl
+accepted_is (Ok (fragment.Whole o d)) held payload = refl
+accepted_is (Err r) held payload = go (ltb (number_of r) 7)
   where
-    go : (b : Bool) → is_accepted (pick b (refused_with n 0) (refused_with n held)).answer ≡ false
+    go : (b : Bool) → is_accepted (pick b (refused_with (number_of r) 0) (refused_with (number_of r) held)).answer ≡ false
     go true = refl
     go false = refl
 
@@ -118,38 +119,37 @@ room_for_each line e = go (has_form line) refl e
 
 -- ---- a line joined, over the words
 
-pub lsdu_put : (lid tick : ℕ) (lsdu words store output : List ℕ) (r : Columns) (words' store' output' : List ℕ) (x : FragmentAnswer) (after : Table)
+pub lsdu_put : (lid tick : ℕ) (lsdu words store output : List ℕ) (r : Columns) (words' store' output' : List ℕ) (x : Result Accepted Refusal) (after : Table)
     → FragmentPut lid tick lsdu words store output x words' store' output' → after ≡ table_in words' → r ≡ columns_after x lid lsdu after
     → LsduPut lid tick lsdu words store output r words' store' output'
 unfolding columns_after
 lsdu_put lid tick lsdu words store output r words' store' output' x after put t c =
     let is : r ≡ columns_after x lid lsdu (table_in words') = c ∙ ap (columns_after x lid lsdu) t in
-    let kept : is_accepted r.answer ≡ is_taken x = ap (λ (c : Columns). is_accepted c.answer) is ∙ accepted_is x _ _ in
+    let kept : is_accepted r.answer ≡ is_ok x = ap (λ (c : Columns). is_accepted c.answer) is ∙ accepted_is x _ _ in
     record {
-      joined = record { call = record { answer = x; table = table_in words' }; gives = put.gives; table_is = refl; columns_are = is };
+      joined = record { call = x; gives = put.gives; columns_are = is };
       words_are = put.words_are ∙ sym (ap (λ (b : Bool). kept_words b (table_in words') words) kept);
     }
 
-module _ (line lsdu lsdu' : List ℕ) (a : LineRead) (got : (line_answer a ≡ read_line line (length lsdu)) × (lsdu' ≡ lsdu_after (line_answer a) line lsdu))
+module _ (line lsdu lsdu' : List ℕ) (a : Result Line LineRefusal) (got : (line_answer a ≡ read_line line (length lsdu)) × (lsdu' ≡ lsdu_after (line_answer a) line lsdu))
     (room : length lsdu ≡ 300) (words store output : List ℕ) (r : Columns) where
-  line_put : (words' store' output' : List ℕ) → LineTaken line (table_in words) lsdu store output (record { table = table_in words'; columns = r }) lsdu' store' output'
+  line_put : (words' store' output' : List ℕ) → LineTaken line (table_in words) lsdu store output r (table_in words') lsdu' store' output'
       → words' ≡ kept_words (is_accepted r.answer) (table_in words') words → LinePut line words store output r words' store' output'
   line_put words' store' output' t w = record {
-    joined =
-        subst (λ (n : ℕ). LineJoined (read_line line n) (lsdu_of line) (table_in words) store output (record { table = table_in words'; columns = r }) store' output') room
-        t.joined;
+    joined = subst (λ (n : ℕ). LineJoined (read_line line n) (lsdu_of line) (table_in words) store output r (table_in words') store' output') room t.joined;
     words_are = w;
   }
 
-  pub read_put : (words' store' output' : List ℕ) (l t n : ℕ) (part : List ℕ) → a ≡ read.Fields l t n → part ≡ take n lsdu'
+  pub read_put : (words' store' output' : List ℕ) {l t n : ℕ} {part : List ℕ} → a ≡ Ok (record { lid = l; tick = t; octets = n }) → part ≡ take n lsdu'
       → LsduPut l t part words store output r words' store' output' → LinePut line words store output r words' store' output'
-  read_put words' store' output' l t n part e p put =
-      line_put words' store' output' (line_joined line (table_in words) lsdu store output lsdu' store' output' _ a got l t n part e p put.joined) put.words_are
+  read_put words' store' output' e p put =
+      line_put words' store' output' (line_joined line (table_in words) (table_in words') lsdu store output lsdu' store' output' r a got e p put.joined) put.words_are
 
-  pub refused_put : (k : ℕ) → a ≡ read.Refused k → r ≡ refused_with k 0 → LinePut line words store output r words store output
+  pub refused_put : (k : LineRefusal) {number : ℕ} → a ≡ Err k → number ≡ line_refusal_number k → r ≡ refused_with number 0
+      → LinePut line words store output r words store output
   unfolding refused_with is_accepted kept_words
-  refused_put k e c =
-      line_put words store output (line_refused line (table_in words) lsdu store output lsdu' store output _ a got k e refl c refl refl)
+  refused_put k e n c =
+      line_put words store output (line_refused line (table_in words) (table_in words) lsdu store output lsdu' store output r a got k e n refl c refl refl)
       (sym (ap (λ (x : Columns). kept_words (is_accepted x.answer) (table_in words) words) c))
 
 pub answer_fits : (line words store output : List ℕ) (r : Columns) (words' store' output' : List ℕ) → LinePut line words store output r words' store' output'
@@ -158,10 +158,10 @@ unfolding LineJoined refused_with columns_after
 answer_fits line words store output r words' store' output' put = go (read_line line 300) refl put.joined
   where
     go : (a : Answer Fields) → read_line line 300 ≡ a
-        → LineJoined a (lsdu_of line) (table_in words) store output (record { table = table_in words'; columns = r }) store' output' → length (answer_text r.answer) ≤ 29
+        → LineJoined a (lsdu_of line) (table_in words) store output r (table_in words') store' output' → length (answer_text r.answer) ≤ 29
     go (accepted f) e j =
-        shown_short j.call.answer r _ _ j.columns_are
-        (fragment_small f.lid f.tick (lsdu_of line) (table_in words) store output j.call store' output' j.gives)
+        shown_short j.call r _ _ j.columns_are
+        (fragment_small f.lid f.tick (lsdu_of line) (table_in words) store output j.call (table_in words') store' output' j.gives)
     go (refused k) e j = omega (arith, ap (λ (c : Columns). length (answer_text c.answer)) j.columns_are, refused_short k (read_small line 300 k e))
 
 -- ---- the contract
@@ -174,15 +174,15 @@ module _ (number : ℕ) (line words store output text : List ℕ) (r : ℕ) (wor
       rw (lt-ltb (length text) 128 h) (record { number_is = n; words_are = w; store_is = s; output_is = o; text_is = t })
 
   pub line_shown : (columns : Columns) (n : ℕ) → 128 ≤ length text → LinePut line words store output columns words' store' output'
-      → (n ≡ length (answer_line_text number columns.answer columns.octets columns.dropped))
-      × (text' ≡ written text 0 (answer_line_text number columns.answer columns.octets columns.dropped)) × (n ≤ 128)
+      → (n ≡ length (output_line number columns)) × (text' ≡ written text 0 (output_line number columns)) × (n ≤ 128)
       → r ≡ answer_number 0 0 n 0 → BenchLineExported number line words store output text r words' store' output' text'
-  unfolding BenchLineExported output_line
+  unfolding BenchLineExported
   line_shown columns n h put shown e =
       let line' = output_line number columns in
       let number_is : r ≡ answer_number 0 0 (length line') 0 = e ∙ ap (λ (m : ℕ). answer_number 0 0 m 0) shown.0 in
       rw (le-ltb (length text) 128 h) (record {
-        taken = record { table = table_in words'; columns = columns };
+        columns = columns;
+        table = table_in words';
         joined = put.joined;
         words_are = put.words_are;
         table_back = refl;

@@ -9,16 +9,17 @@ use native.Mathlib.Omega.{arith}
 use lib.ListN.{length, take, drop, length-drop, replicate, length-replicate, take-append-drop}
 use lib.Seq.{length-take-le}
 use lib.Dec.{eqb}
+use Rattle.std.specs.Prelude.{Result}
 use Rattle.refusals.specs.Check.{pick}
+use Rattle.refusals.specs.declared.Refusal.{Refusal}
 use Rattle.slots.specs.declared.Slot.{Slot}
 use Rattle.slots.specs.declared.Table.{Table}
-use Rattle.slots.specs.declared.SweepResult.{SweepResult}
 use Rattle.slots.specs.Slots.{is_busy, is_sound}
 use Rattle.slots.specs.Sweep.{ExpiryGives, ReleaseGives}
 use Rattle.slots.specs.Model.{sound_slot, all_sound}
 use Rattle.slots.proofs.Tests.{and_l, and_r}
 use Rattle.slots.proofs.SoundLaws.{held_small, sound_parts}
-use Rattle.reassembly.specs.declared.FragmentResult.{FragmentResult}
+use Rattle.reassembly.specs.declared.Accepted.{Accepted}
 use Rattle.reassembly.specs.Engine.{FragmentGives}
 use Rattle.reassembly.specs.Ledger.{Message, joined}
 use Rattle.reassembly.proofs.Perm.{perm_refl}
@@ -97,11 +98,11 @@ pub record Sound (t : Table) : Type 0 where
   pub sound : is_sound t ≡ true
   pub eight : length t.slots ≡ 8
 
-pub fragment_stays : (lid tick : ℕ) (lsdu : List ℕ) (t : Table) (store output : List ℕ) (r : FragmentResult) (store' output' : List ℕ) → Sound t → length store ≡ 4096
-    → FragmentGives lid tick lsdu t store output r store' output' → Sound r.table
-fragment_stays lid tick lsdu t store output r store' output' s long gives =
+pub fragment_stays : (lid tick : ℕ) (lsdu : List ℕ) (t : Table) (store output : List ℕ) (r : Result Accepted Refusal) (t' : Table) (store' output' : List ℕ)
+    → Sound t → length store ≡ 4096 → FragmentGives lid tick lsdu t store output r t' store' output' → Sound t'
+fragment_stays lid tick lsdu t store output r t' store' output' s long gives =
     let i = ledger_of t store s.eight s.sound long in
-    let a = fragment_agrees lid tick lsdu t store output (messages t.slots store) i r store' output' gives in
+    let a = fragment_agrees lid tick lsdu t store output (messages t.slots store) i r t' store' output' gives in
     record { sound = sound_known a.inv; eight = a.inv.eight }
 
 -- expiry and release have no store: any will do
@@ -112,13 +113,13 @@ store_long : length some_store ≡ 4096
 unfolding some_store
 store_long = length-replicate {A = ℕ} 4096 0
 
-module _ (t : Table) (r : SweepResult) (s : Sound t) where
-  pub expiry_stays : (tick limit : ℕ) → ExpiryGives tick limit t r → Sound r.table
+module _ (t : Table) (r : Result ℕ Refusal) (t' : Table) (s : Sound t) where
+  pub expiry_stays : (tick limit : ℕ) → ExpiryGives tick limit t r t' → Sound t'
   expiry_stays tick limit gives =
-      let a = expiry_agrees t some_store (messages t.slots some_store) (ledger_of t some_store s.eight s.sound store_long) r tick limit gives in
+      let a = expiry_agrees t some_store (messages t.slots some_store) (ledger_of t some_store s.eight s.sound store_long) r t' tick limit gives in
       record { sound = sound_known a.inv; eight = a.inv.eight }
 
-  pub release_stays : (lid : ℕ) → ReleaseGives lid t r → Sound r.table
+  pub release_stays : (lid : ℕ) → ReleaseGives lid t r t' → Sound t'
   release_stays lid gives =
-      let a = release_agrees t some_store (messages t.slots some_store) (ledger_of t some_store s.eight s.sound store_long) r lid gives in
+      let a = release_agrees t some_store (messages t.slots some_store) (ledger_of t some_store s.eight s.sound store_long) r t' lid gives in
       record { sound = sound_known a.inv; eight = a.inv.eight }

@@ -8,7 +8,7 @@ use Rattle.bench_lines.specs.declared.BenchAnswer.TheVariants as shown
 use Rattle.bench_lines.specs.Line.{read_line}
 use Rattle.bench_lines.specs.Text.{answer_line_text, written}
 use Rattle.bench_joining.specs.declared.Columns.{Columns}
-use Rattle.bench_joining.specs.declared.Taken.{Taken}
+use Rattle.slots.specs.declared.Table.{Table}
 use Rattle.bench_joining.specs.Joined.{LineJoined, lsdu_of}
 use Rattle.words.specs.Answer.{answer_number, Says}
 use Rattle.words.specs.TableWords.{table_in}
@@ -32,13 +32,14 @@ output_line number columns = answer_line_text number columns.answer columns.octe
 
 -- the line is taken and shown
 pub record LineShown (number : ℕ) (line words store output text : List ℕ) (r : ℕ) (words' store' output' text' : List ℕ) : Type 0 where
-  pub taken : Taken
-  pub joined : LineJoined (read_line line lsdu_room) (lsdu_of line) (table_in words) store output taken store' output'
-  pub words_are : words' ≡ kept_words (is_accepted taken.columns.answer) taken.table words
-  pub table_back : table_in words' ≡ taken.table
-  pub text_is : text' ≡ written text 0 (output_line number taken.columns)
-  pub number_is : r ≡ answer_number 0 0 (length (output_line number taken.columns)) 0
-  pub says : Says r 0 0 (length (output_line number taken.columns)) 0
+  pub columns : Columns
+  pub table : Table
+  pub joined : LineJoined (read_line line lsdu_room) (lsdu_of line) (table_in words) store output columns table store' output'
+  pub words_are : words' ≡ kept_words (is_accepted columns.answer) table words
+  pub table_back : table_in words' ≡ table
+  pub text_is : text' ≡ written text 0 (output_line number columns)
+  pub number_is : r ≡ answer_number 0 0 (length (output_line number columns)) 0
+  pub says : Says r 0 0 (length (output_line number columns)) 0
 
 -- too little room for the text
 pub record TextRefused (words store output text : List ℕ) (r : ℕ) (words' store' output' text' : List ℕ) : Type 0 where

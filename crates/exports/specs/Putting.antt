@@ -23,11 +23,11 @@ pub record FragmentPut (lid tick : ℕ) (lsdu words store output : List ℕ) (r 
 
 -- a line's LSDU, and a line: likewise, by what the columns show
 pub record LsduPut (lid tick : ℕ) (lsdu words store output : List ℕ) (r : Columns) (words' store' output' : List ℕ) : Type 0 where
-  pub joined : LsduJoined lid tick lsdu (table_in words) store output (record { table = table_in words'; columns = r }) store' output'
+  pub joined : LsduJoined lid tick lsdu (table_in words) store output r (table_in words') store' output'
   pub words_are : words' ≡ kept_words (is_accepted r.answer) (table_in words') words
 
 pub record LinePut (line words store output : List ℕ) (r : Columns) (words' store' output' : List ℕ) : Type 0 where
-  pub joined : LineJoined (read_line line lsdu_room) (lsdu_of line) (table_in words) store output (record { table = table_in words'; columns = r }) store' output'
+  pub joined : LineJoined (read_line line lsdu_room) (lsdu_of line) (table_in words) store output r (table_in words') store' output'
   pub words_are : words' ≡ kept_words (is_accepted r.answer) (table_in words') words
 
 pub record SweepPut (words : List ℕ) (answer : Result ℕ Refusal) (after : Table) (r : ℕ) (words' : List ℕ) : Type 0 where

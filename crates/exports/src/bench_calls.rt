@@ -1,12 +1,14 @@
 // One line of a recording through the joining, and the line that the bench prints of it.
 ghost use Rattle.std.specs.Prelude.{◌≡◌, ◌≤◌, length};
-ghost use Rattle.bench_lines.specs.Text.{answer_text, answer_line_text, written};
-ghost use Rattle.exports.specs.BenchLine.{text_octets, BenchLineExported, RoomForEach};
+ghost use Rattle.bench_lines.specs.Text.{answer_text, written};
+ghost use Rattle.exports.specs.BenchLine.{text_octets, output_line, BenchLineExported, RoomForEach};
 ghost use Rattle.exports.specs.Putting.{LsduPut, LinePut};
 
 use crate::fragments::joined;
+use crate::refused::refused;
 use bench_joining::{Columns, front, no_octets, shown};
-use bench_lines::{Appended, BenchAnswer, LineRead};
+use bench_lines::Line;
+use refusals::Refusal;
 use words::{packed, table_in};
 
 // The octets of a line of output: more than any has.
@@ -33,22 +35,27 @@ fn take(line: &[u8], table: &mut [u32], store: &mut [u8], out: &mut [u8]) -> Col
 {
     let mut lsdu = [0u8; 300];
     match bench_lines::read_line(line, &mut lsdu) {
-        LineRead::Fields { lid, tick, octets } => {
+        Ok(Line { lid, tick, octets }) => {
             join(lid, tick, front(&lsdu, octets), table, store, out)
         }
-        LineRead::Refused(number) => no_octets(number, 0),
+        Err(refusal) => no_octets(u8::from(refusal), 0),
     }
 }
 
 // Writes a line of output to the front of `text` and answers how many octets it has.
-fn show(number: u64, answer: BenchAnswer, octets: u64, dropped: u64, text: &mut [u8]) -> usize
-    requires { (text_octets ≤ length text.old) × (length (answer_text answer) ≤ 29) }
-    ensures { (result ≡ length (answer_line_text number answer octets dropped)) × (text.new ≡ written text.old 0 (answer_line_text number answer octets dropped)) × (result ≤ text_octets) }
+fn show(number: u64, columns: Columns, text: &mut [u8]) -> usize
+    requires { (text_octets ≤ length text.old) × (length (answer_text columns.answer) ≤ 29) }
+    ensures { (result ≡ length (output_line number columns)) × (text.new ≡ written text.old 0 (output_line number columns)) × (result ≤ text_octets) }
 {
-    match bench_lines::append_answer(number, answer, octets, dropped, text, 0) {
-        Appended::Next(n) => n,
-        Appended::Refused(_) => 0,
-    }
+    bench_lines::append_answer(
+        number,
+        columns.answer,
+        columns.octets,
+        columns.dropped,
+        text,
+        0,
+    )
+    .unwrap_or(0)
 }
 
 // Takes line `number` of a recording and writes its line of output to the front of `text`: first is how many octets that has. Refused 22, and nothing
@@ -66,14 +73,8 @@ pub extern "C" fn semuryeon_bench_line(
     ensures room { RoomForEach }
 {
     if text.len() < TEXT_OCTETS {
-        return packed(refusals::OUTPUT_TOO_SMALL, 0, 0, 0);
+        return refused(Refusal::OutputTooSmall);
     }
     let columns = take(line, table, store, out);
-    let answer = columns.answer;
-    packed(
-        0,
-        0,
-        show(number, answer, columns.octets, columns.dropped, text),
-        0,
-    )
+    packed(0, 0, show(number, columns, text), 0)
 }
