@@ -3,7 +3,9 @@
 use mathlib.Core.Path.{◌≡◌, refl, ap, sym, ◌∙◌}
 use Prim.Native.Nat.{ℕ, zero, suc, ◌+◌, ◌-◌, ◌*◌, ◌/◌, ◌%◌, ◌^◌, ◌≤◌, ◌<◌}
 use mathlib.Core.List.{List, [], ◌∷◌, ◌++◌, append_assoc}
-use native.Mathlib.Nat.{pow-suc, add-zero}
+use native.Mathlib.Nat.{pow-suc, add-zero, pow-le-pow_right}
+use Rattle.std.specs.Prelude.{Option, Some, None, IfSome, IfNone}
+use Rattle.std.specs.Option.{unwrap_or}
 use native.Mathlib.Omega.{arith}
 use lib.Dec.{ltb}
 use lib.ListN.{length, length-set, take, drop, set, take-append-drop}
@@ -56,6 +58,30 @@ width_most (suc k) n h =
 
 pub width_u64 : (n : ℕ) → n < 18446744073709551616 → width n ≤ 20
 width_u64 n h = width_most 19 n (omega arith)
+
+-- a number is below the power of ten that its digits count
+pub width_pow : (m n : ℕ) → n ≤ m → n < 10 ^ width n
+width_pow zero n h = rw (width_one n (omega arith)) (omega arith)
+width_pow (suc m) n h =
+    by_cases (ltb n 10)
+    (λ t. let g = ltb-true n 10 t in rw (width_one n (omega arith)) (omega arith))
+    (λ t. let g = ltb-false n 10 t in
+    let p = width_pow m (n / 10) (omega arith) in
+    rw (width_more n (omega arith), pow-suc) (omega arith))
+
+-- the power of ten at or below a number tells how many digits it has
+pub width_log : (n : ℕ) (power : Option ℕ) → IfNone power (n ≡ 0) → IfSome power (λ k. 10 ^ k ≤ n) → IfSome power (λ k. n < 10 * 10 ^ k) → width n ≡ 1 + unwrap_or power 0
+width_log n None z p q = width_one n (omega arith)
+width_log n (Some k) z p q =
+    let m : n < 10 ^ suc k = rw pow-suc (omega arith) in
+    let w = width_most k n m in
+    by_cases (ltb k (width n))
+    (λ t. let g = ltb-true k (width n) t in omega arith)
+    (λ t. let g = ltb-false k (width n) t in
+    let some : 0 < 10 = omega arith in
+    let h : 10 ^ width n ≤ 10 ^ k = pow-le-pow_right some g in
+    let l = width_pow n n (omega arith) in
+    absurd (omega arith))
 
 -- ---- writing the digits
 

@@ -1,16 +1,15 @@
 -- Whether a line has 01's form: one law for each way out of the test, and what the form tells.
 -- Assumes nothing.
-use mathlib.Core.Path.{◌≡◌, refl, sym, ◌∙◌}
-use mathlib.Core.Bool.{Bool, true, false, not, ◌&&◌}
+use mathlib.Core.Path.{◌≡◌, refl, sym}
+use mathlib.Core.Bool.{Bool, true, false, ◌&&◌}
 use Prim.Native.Nat.{ℕ, ◌+◌, ◌-◌, ◌%◌, ◌≤◌, ◌<◌}
 use mathlib.Core.List.{List, ◌∷◌}
 use native.Mathlib.Omega.{arith}
 use Rattle.std.proofs.Math.Bool.{and_assoc}
 use Rattle.std.proofs.lemmas.Slice.{between_is, between_to_end}
-use lib.ListN.{length, take, drop, length-drop}
-use lib.Seq.{slice, length-slice, take-length}
-use borrow.Author.Tests.{le-leb, lt-leb, lt-ltb, le-ltb, ne_eqb, leb-true, ltb-true, eqb-true, ltb-false, not-true, not-false}
-use Rattle.refusals.proofs.Tests.{by_cases}
+use lib.ListN.{length, take, drop}
+use lib.Seq.{slice}
+use borrow.Author.Tests.{le-leb, lt-leb, lt-ltb, le-ltb, ne_eqb, leb-true, ltb-true, eqb-true}
 use Rattle.bench_lines.specs.Numerals.{all_digits, spelled}
 use Rattle.bench_lines.specs.Inside.{are_fields}
 use Rattle.bench_lines.specs.Line.{before, first_space, second_space, lid_text, tick_text, lsdu_text, all_hold, has_form}

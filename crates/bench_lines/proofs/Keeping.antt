@@ -5,7 +5,7 @@ use Prim.Native.Nat.{ℕ, ◌+◌, ◌-◌, ◌≤◌, ◌<◌, min}
 use mathlib.Core.List.{List, ◌++◌, append-nil}
 use native.Mathlib.Omega.{arith}
 use lib.ListN.{length, take, drop, length-append, length-take}
-use lib.Seq.{take_all, take-length, drop-length, length-take-le, take-append_seam, take-append-add}
+use lib.Seq.{take_all, drop-length, length-take-le, take-append_seam, take-append-add}
 use Rattle.std.proofs.lemmas.List.{take_min}
 use borrow.Rule.Slice.PartMut.{put_mid}
 use Rattle.std.proofs.lemmas.Slice.{put_mid-paste}

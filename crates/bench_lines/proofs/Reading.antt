@@ -1,7 +1,7 @@
 -- What reading a line answers, one law for each way out.
 -- Assumes nothing.
-use mathlib.Core.Path.{◌≡◌, refl, ap, sym, ◌∙◌}
-use mathlib.Core.Bool.{Bool, true, false, not}
+use mathlib.Core.Path.{◌≡◌, ap, sym, ◌∙◌}
+use mathlib.Core.Bool.{Bool, true}
 use Prim.Native.Nat.{ℕ, suc, ◌+◌, ◌-◌, ◌*◌, ◌/◌, ◌%◌, ◌^◌, ◌≤◌, ◌<◌}
 use mathlib.Core.List.{List, [], ◌∷◌, ◌++◌}
 use native.Mathlib.Nat.{mul-le-mul_right, mul_assoc, mul-one, one-mul, add-mul, pow-zero, pow-succ'}
@@ -10,12 +10,12 @@ use lib.Dec.{ltb}
 use Rattle.std.proofs.lemmas.Slice.{between_is, between_to_end}
 use lib.ListN.{length, take, drop, length-drop}
 use lib.Seq.{slice, length-slice}
-use borrow.Author.Tests.{le-leb, lt-leb, lt-ltb, ltb-true, not-true, not-false}
+use borrow.Author.Tests.{le-leb, lt-leb, lt-ltb, ltb-true}
 use Rattle.std.specs.Prelude.{Some}
 use Rattle.refusals.specs.Check.{refused, accepted}
 use Rattle.bench_lines.specs.Numerals.{digit_value, all_digits, spelled_after, spelled, octets_of}
 use Rattle.bench_lines.specs.Inside.{small}
-use Rattle.bench_lines.specs.Line.{before, first_space, second_space, lid_text, tick_text, lsdu_text, has_form, Fields, fields_of, read_line, line_answer, lsdu_after}
+use Rattle.bench_lines.specs.Line.{before, first_space, second_space, lid_text, tick_text, lsdu_text, has_form, fields_of, read_line}
 use Rattle.bench_lines.proofs.Spelling.{and_both}
 use Rattle.bench_lines.proofs.Form.{Formed, formed}
 

@@ -20,7 +20,7 @@ use Rattle.bench_lines.specs.Line.{longest_line, lid_digits, tick_bound, before,
 use Rattle.bench_lines.specs.RoundTrip.{has_place, GivenBack, ReadingPrinted}
 use Rattle.bench_lines.proofs.Spelling.{and_both}
 use Rattle.bench_lines.proofs.Form.{and_end}
-use Rattle.bench_lines.proofs.Decimal.{width_one, width_more, width_positive, digits_append, length_digits}
+use Rattle.bench_lines.proofs.Decimal.{width_positive, width_pow, digits_append, length_digits}
 
 -- ---- the digits of a number
 
@@ -92,16 +92,6 @@ module _ (base : ℕ) (some : 0 < base) (most : base ≤ 16) where
       let g : 16 < base = rw s at h in
       absurd (omega arith))
       (λ t. simp t (ap suc (before_space a b p.1)))
-
--- a number is below the power of ten that its digits count
-pub width_pow : (m n : ℕ) → n ≤ m → n < 10 ^ width n
-width_pow zero n h = rw (width_one n (omega arith)) (omega arith)
-width_pow (suc m) n h =
-    by_cases (ltb n 10)
-    (λ t. let g = ltb-true n 10 t in rw (width_one n (omega arith)) (omega arith))
-    (λ t. let g = ltb-false n 10 t in
-    let p = width_pow m (n / 10) (omega arith) in
-    rw (width_more n (omega arith), pow-suc) (omega arith))
 
 -- ---- octets in hex
 

@@ -56,13 +56,7 @@ pub(crate) fn put_octets(s: &[u8], out: &mut [u8])
 pub(crate) fn width_of(n: u64) -> usize
     ensures { (result ≡ width n) × (result ≤ 20) }
 {
-    let mut rest = n;
-    let mut k: usize = 1;
-    while 9 < rest {
-        rest /= 10;
-        k += 1;
-    }
-    k
+    1 + n.checked_ilog10().unwrap_or(0) as usize
 }
 
 // Writes the `k` last decimal digits of `n` to `out` from place `at` on.

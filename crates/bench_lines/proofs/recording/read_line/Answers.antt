@@ -3,8 +3,8 @@
 -- Assumes nothing.
 use native.Mathlib.Omega.{arith}
 use mathlib.Core.Path.{◌≡◌, refl, sym, ◌∙◌}
-use mathlib.Core.Bool.{true, false}
-use Prim.Native.Nat.{◌+◌, ◌-◌, ◌≤◌, ◌<◌}
+use mathlib.Core.Bool.{false}
+use Prim.Native.Nat.{◌<◌}
 use lib.ListN.{length}
 use Rattle.std.proofs.Common.{Some, rules}
 use Rattle.bench_lines.specs.Numerals.{spelled}
@@ -65,9 +65,10 @@ returns-clause-answer c =
     let l : Some c.unwrap-lid.result ≡ Some (spelled 16 (lid_text s)) =
     sym c.unwrap-lid.ensures ∙ c.number_of.ensures ∙ lid_some _ c.has_form.ensures c.if-not-has_form.false c.find-second.ensures in
     let t : Some c.unwrap-tick.result ≡ Some (spelled 10 (tick_text s)) =
-    sym c.unwrap-tick.ensures ∙ c.number_of-2.ensures ∙ tick_some _ c.has_form.ensures c.if-not-has_form.false c.find-second.ensures in
-    (whole_line _ c.has_form.ensures c.if-not-has_form.false c.find-second.ensures _ (cc) (cc) (omega arith),
-    part_placed _ c.has_form.ensures c.if-not-has_form.false c.find-second.ensures _ c.put_octets.ensures)
+    sym c.unwrap-tick.ensures ∙ c.number_of-2.ensures ∙ tick_some _ c.has_form.ensures c.if-not-has_form.false c.find-second.ensures in (
+      whole_line _ c.has_form.ensures c.if-not-has_form.false c.find-second.ensures _ (cc) (cc) (omega arith),
+      part_placed _ c.has_form.ensures c.if-not-has_form.false c.find-second.ensures _ c.put_octets.ensures,
+    )
 
 pub returns-clause-printed : goal.returns-clause-printed
 returns-clause-printed c = reading_printed
