@@ -1,54 +1,69 @@
 // Text is gathered in a buffer and written when the buffer has no more room.
+use crate::BUFFER_OCTETS;
 use bench_joining::{Columns, front};
-use bench_lines::{Appended, Totals};
+use bench_lines::Totals;
+use refusals::Refusal;
 use std::io;
 
-// Writes the first `place` octets of `text` to standard output.
-pub(crate) fn flush(rt: &impl Print, text: &[u8], place: usize) -> io::Result<()> {
-    rt.write_all(front(text, place))
-}
-
-// The place behind appended text, or the front.
-fn next_place(appended: Appended) -> usize {
-    match appended {
-        Appended::Next(next) => next,
-        Appended::Refused(_) => 0,
-    }
-}
-
-// Puts the heading at the front of `text`.
-pub(crate) fn print_heading(text: &mut [u8]) -> usize {
-    next_place(bench_lines::append_heading(text, 0))
-}
-
-// Puts a line of output behind the text at `place`, which is written first if there is no room.
-pub(crate) fn print_line(
-    rt: &impl Print,
-    number: u64,
-    columns: Columns,
-    text: &mut [u8],
+// Text that is not yet written: the octets of `text` in front of `place`.
+#[derive(Drop)]
+pub struct Printer {
+    text: [u8; BUFFER_OCTETS],
     place: usize,
-) -> io::Result<usize> {
-    let answer = columns.answer;
-    let octets = columns.octets;
-    let dropped = columns.dropped;
-    match bench_lines::append_answer(number, answer, octets, dropped, text, place) {
-        Appended::Next(next) => Ok(next),
-        Appended::Refused(_) => {
-            flush(rt, text, place)?;
-            Ok(next_place(bench_lines::append_answer(number, answer, octets, dropped, text, 0)))
+}
+
+impl Printer {
+    // With the heading as its text.
+    pub(crate) fn new() -> Printer {
+        let mut text = [0u8; BUFFER_OCTETS];
+        let place = bench_lines::append_heading(&mut text, 0).unwrap_or(0);
+        Printer { text, place }
+    }
+
+    // Writes the text to standard output.
+    pub(crate) fn flush(&mut self, rt: &impl Print) -> io::Result<()> {
+        rt.write_all(front(&self.text, self.place))?;
+        self.place = 0;
+        Ok(())
+    }
+
+    fn append_line(&mut self, number: u64, columns: Columns) -> Result<(), Refusal> {
+        let Columns {
+            answer,
+            octets,
+            dropped,
+            ..
+        } = columns;
+        self.place = bench_lines::append_answer(
+            number,
+            answer,
+            octets,
+            dropped,
+            &mut self.text,
+            self.place,
+        )?;
+        Ok(())
+    }
+
+    // Puts a line of output behind the text, which is written first if there is no room.
+    pub(crate) fn print_line(
+        &mut self,
+        rt: &impl Print,
+        number: u64,
+        columns: Columns,
+    ) -> io::Result<()> {
+        if self.append_line(number, columns).is_err() {
+            self.flush(rt)?;
+            // The empty buffer has room for every line.
+            let _ = self.append_line(number, columns);
         }
+        Ok(())
     }
-}
 
-// Writes the text at `place` and the totals behind it.
-pub(crate) fn print_totals(
-    rt: &impl Print,
-    totals: Totals,
-    text: &mut [u8],
-    place: usize,
-) -> io::Result<()> {
-    flush(rt, text, place)?;
-    let end = next_place(bench_lines::append_totals(totals, text, 0));
-    flush(rt, text, end)
+    // Writes the text and the totals behind it.
+    pub(crate) fn print_totals(&mut self, rt: &impl Print, totals: Totals) -> io::Result<()> {
+        self.flush(rt)?;
+        self.place = bench_lines::append_totals(totals, &mut self.text, 0).unwrap_or(0);
+        self.flush(rt)
+    }
 }
