@@ -12,7 +12,7 @@ use Rattle.slots.specs.declared.Table.{Table}
 use Rattle.slots.specs.Slots.{free, is_busy, index_of, lowest_free}
 use Rattle.reassembly.specs.declared.Arrival.{Arrival}
 use Rattle.reassembly.specs.declared.Change.{Change}
-use Rattle.reassembly.specs.declared.FragmentAnswer.TheVariants.{Held, Whole}
+use Rattle.reassembly.specs.declared.Accepted.TheVariants.{Held, Whole}
 use Rattle.reassembly.specs.Engine.{put_at, part_at, slot_for, change_taken, fragment_taken}
 use Rattle.reassembly.specs.Accept.{DeliverAsks, DeliverGives, KeepAsks, KeepGives, AcceptAsks, Found, AcceptGives}
 
@@ -83,7 +83,7 @@ module _ {a : Arrival} {slot : Slot} {lowest before dropped : ℕ} {payload stor
   unfolding change_taken fragment_taken
   deliver_gives l h = record {
     change_is = λ t f. h.change_is
-        ∙ rw l (λ k. record { answer = Whole (before_is f b k + length payload) (dropped_is f d k); slot = free; index = f.index_is k });
+        ∙ rw l (λ k. record { accepted = Whole (before_is f b k + length payload) (dropped_is f d k); slot = free; index = f.index_is k });
     store_is = λ t f. rw l refl;
     output_is = λ t f. h.output_is
         ∙ rw l (λ k. put_at output 0 (take (before_is f b k) (drop (part_at (f.index_is k)) store) ++ payload));
@@ -99,7 +99,7 @@ module _ {a : Arrival} {slot : Slot} {lowest before dropped : ℕ} {payload stor
         let n' = n ∙ ap (λ (s : Slot). pick a.begins 1 (s.next + 1)) f.slot_is in
         let c' = c ∙ ap (λ (s : Slot). pick a.begins a.tick s.tick) f.slot_is in
         let slot' : ◌≡◌ {A = Slot} _ _ = λ k. record { lid = a.lid; number = a.number; next = n' k; held = before_is f b k + length payload; tick = c' k } in
-        h.change_is ∙ rw l (λ k. record { answer = Held (before_is f b k + length payload) (dropped_is f d k); slot = slot' k; index = taken_is f e k });
+        h.change_is ∙ rw l (λ k. record { accepted = Held (before_is f b k + length payload) (dropped_is f d k); slot = slot' k; index = taken_is f e k });
     store_is = λ t f. h.store_is ∙ rw l (λ k. put_at store (part_at (taken_is f e k) + before_is f b k) payload);
     output_is = λ t f. rw l refl;
   }

@@ -11,7 +11,11 @@ use lib.Seq.{take_all}
 use lib.Count.{ones}
 use lib.Dec.{eqb}
 use borrow.Author.Tests.{eq-eqb, ne_eqb, leb-false}
-use Rattle.refusals.specs.Check.{pick, Check, first_of, refused}
+use Rattle.std.specs.Prelude.{Result, Ok, Err}
+use Rattle.refusals.specs.Check.{pick, Check, first_of, Answer, refused, accepted}
+use Rattle.refusals.specs.declared.Refusal.{Refusal}
+use Rattle.refusals.specs.declared.Refusal.TheVariants as refusal
+use Rattle.refusals.specs.Refusal.{number_of, answer_of}
 use Rattle.header.specs.Header.{header_length}
 use Rattle.slots.specs.declared.Slot.{Slot}
 use Rattle.slots.specs.declared.Table.{Table}
@@ -25,10 +29,9 @@ use Rattle.reassembly.specs.declared.FragmentFields.{FragmentFields}
 use Rattle.reassembly.specs.declared.Facts.{Facts}
 use Rattle.reassembly.specs.declared.Arrival.{Arrival}
 use Rattle.reassembly.specs.declared.Change.{Change}
-use Rattle.reassembly.specs.declared.FragmentAnswer.{FragmentAnswer}
-use Rattle.reassembly.specs.declared.FragmentAnswer.TheVariants.{Refused}
+use Rattle.reassembly.specs.declared.Accepted.{Accepted}
 use Rattle.reassembly.specs.Checks.{fragment_in, payload_of, lsdu_checks, header_checks, pair_checks}
-use Rattle.reassembly.specs.Engine.{slot_for, facts_from, facts_in, fragment_refusal, change_taken, fragment_taken, fragment_of, change_of, fragment_answer, changed_for, changed_by, ChangeGives, FragmentGives}
+use Rattle.reassembly.specs.Engine.{Taken, slot_for, facts_from, facts_in, fragment_refusal, change_taken, fragment_taken, fragment_of, change_of, taken_of, fragment_answer, changed_by, ChangeGives, FragmentGives}
 use Rattle.reassembly.specs.Accept.{AcceptAsks, AcceptGives}
 use Rattle.reassembly.proofs.Joins.{lowest_is}
 use Rattle.reassembly.proofs.Passed.{Numbered, first_append, Passed, passed, valid_is, valid_refusal}
@@ -61,6 +64,34 @@ arrival_of lid tick f index = record { lid = lid; number = f.number; tick = tick
 -- the part of an LSDU behind all but so many octets
 abbrev pub tail_of : List ℕ → ℕ → List ℕ
 tail_of lsdu octets = take (length lsdu - (length lsdu - octets)) (drop (length lsdu - octets) lsdu)
+
+-- no refusal has the number 0
+not_0 : (e : Refusal) → eqb (number_of e) 0 ≡ false
+not_0 refusal.StoreOrOutputLength = refl
+not_0 refusal.TableNotSound = refl
+not_0 refusal.LidOutOfRange = refl
+not_0 refusal.LsduLength = refl
+not_0 refusal.HeaderNotValid = refl
+not_0 refusal.NumberReserved = refl
+not_0 refusal.NoPayload = refl
+not_0 refusal.NotOpen = refl
+not_0 refusal.NoFreeSlot = refl
+not_0 refusal.CounterNotExpected = refl
+not_0 refusal.CounterExhausted = refl
+not_0 refusal.MessageTooLong = refl
+not_0 refusal.CutShort = refl
+not_0 refusal.OctetsLeft = refl
+not_0 refusal.ChoiceUnknown = refl
+not_0 refusal.ExtensionBit = refl
+not_0 refusal.ContainerKind = refl
+not_0 refusal.CountTooLarge = refl
+not_0 refusal.TooDeep = refl
+not_0 refusal.ApduTooLong = refl
+not_0 refusal.OutputTooSmall = refl
+not_0 refusal.RecordOutOfRange = refl
+not_0 refusal.NotServed = refl
+not_0 refusal.LinkNotReady = refl
+not_0 refusal.ListNotSound = refl
 
 -- the two lists of checks, as the callees go through them
 module _ (lid : ℕ) (lsdu : List ℕ) (t : Table) (store output : List ℕ) where
@@ -101,26 +132,17 @@ module _ {lid : ℕ} {lsdu : List ℕ} {t : Table} {store output : List ℕ} whe
 
   -- ---- refusals
 
-  pub refusal_gives : {tick n : ℕ} (r : Change) → number lid lsdu t store output ≡ n → (n ≡ 0 → ⊥) → r ≡ record { answer = Refused n; slot = free; index = slot_count }
-      → ChangeGives lid tick lsdu t store output r store output
+  pub refusal_gives : {tick : ℕ} (e : Refusal) → number lid lsdu t store output ≡ number_of e → ChangeGives lid tick lsdu t store output (Err e) store output
   unfolding change_of fragment_of
-  refusal_gives r e z h =
-      let q = ne_eqb (number lid lsdu t store output) 0 (λ k. z (sym e ∙ k)) in
-      record {
-        change_is = rw q (h ∙ ap none (sym e));
-        store_is = rw q;
-        output_is = rw q;
-      }
-    where
-      none : ℕ → Change
-      none k = record { answer = Refused k; slot = free; index = slot_count }
+  refusal_gives e h =
+      let q = ap (λ (n : ℕ). eqb n 0) h ∙ not_0 e in
+      record { change_is = rw q (ap refused (sym h)); store_is = rw q; output_is = rw q }
 
-  pub early_gives : {tick early : ℕ} {fine : Bool} (r : Change) → fine ≡ is_sound t
-      → early ≡ first_of (early_list lid lsdu t store output fine) → (early ≡ 0 → ⊥)
-      → r ≡ record { answer = Refused early; slot = free; index = slot_count } → ChangeGives lid tick lsdu t store output r store output
-  early_gives {early = early} r sound first z h =
-      let e = first ∙ ap (λ (b : Bool). first_of (early_list lid lsdu t store output b)) sound in
-      refusal_gives r (by_lists lid lsdu t store output ∙ rw (sym e, ne_eqb early 0 z)) z h
+  pub early_gives : {tick : ℕ} {fine : Bool} (e : Refusal) → fine ≡ is_sound t → number_of e ≡ first_of (early_list lid lsdu t store output fine)
+      → ChangeGives lid tick lsdu t store output (Err e) store output
+  early_gives e sound first =
+      let n = first ∙ ap (λ (b : Bool). first_of (early_list lid lsdu t store output b)) sound in
+      refusal_gives e (by_lists lid lsdu t store output ∙ rw (sym n, not_0 e))
 
   -- ---- no refusal
 
@@ -174,29 +196,34 @@ module _ {lid : ℕ} {lsdu : List ℕ} {t : Table} {store output : List ℕ} whe
 
     pub gives : {tick lowest : ℕ} {r : Change} {store' output' : List ℕ} → lowest ≡ lowest_free t
         → AcceptGives (arrival_of lid tick f index) slot lowest (tail_of lsdu f.octets) store output r store' output'
-        → ChangeGives lid tick lsdu t store output r store' output'
+        → ChangeGives lid tick lsdu t store output (Ok r) store' output'
     unfolding change_of fragment_of
     gives {tick = tick} {r = r} {store' = store'} {output' = output'} low g =
         let moved = coe 0 1 (k. AcceptGives (arrival_of lid tick (l.fields k) (l.found k)) (l.read k) (low k) (tail_is k) store output r store' output') g in
         let none = eq-eqb (number lid lsdu t store output) 0 (l.refusal ∙ no_late) in
         record {
-          change_is = rw none (moved.change_is t (record { index_is = refl; slot_is = refl; lowest_is = refl }));
+          change_is = rw none (ap accepted (moved.change_is t (record { index_is = refl; slot_is = refl; lowest_is = refl })));
           store_is = rw none (moved.store_is t (record { index_is = refl; slot_is = refl; lowest_is = refl }));
           output_is = rw none (moved.output_is t (record { index_is = refl; slot_is = refl; lowest_is = refl }));
         }
 
 -- ---- the change, made in the table
 
--- the table after a change, by the answer
-pub changed_as : {a x : FragmentAnswer} (before after : Table) {r : Table} → a ≡ x → r ≡ changed_for x before after → r ≡ changed_for a before after
-changed_as before after e h = rw e h
+-- what a call answers and leaves in the table, by what it changes
+answered : Answer Change → Answer Taken
+answered (refused n) = refused n
+answered (accepted c) = accepted (taken_of c.accepted)
+
+left : Table → Answer Change → Table
+left t (refused n) = t
+left t (accepted c) = changed_by t c
 
 -- the change that a call tells is the one that the call makes
 change_makes : (lid tick : ℕ) (lsdu : List ℕ) (t : Table) (store output : List ℕ)
     → let c = change_of lid tick lsdu t (length store) (length output) in
     let o = fragment_of lid tick lsdu t store output in
-    (fragment_answer c.answer ≡ o.answer) × (changed_by t c ≡ o.table)
-unfolding change_of fragment_of change_taken fragment_taken changed_for
+    (answered c ≡ o.answer) × (left t c ≡ o.table)
+unfolding change_of fragment_of change_taken fragment_taken answered left
 change_makes lid tick lsdu t store output = go (eqb n 0) (fragment_in lsdu).last
   where
     n : ℕ
@@ -206,21 +233,34 @@ change_makes lid tick lsdu t store output = go (eqb n 0) (fragment_in lsdu).last
     begins = eqb (fragment_in lsdu).counter 0
 
     go : (b last : Bool)
-        → let c = pick b (change_taken last begins lid (fragment_in lsdu).number tick (length (payload_of lsdu)) t) (record { answer = Refused n; slot = free; index = slot_count }) in
+        → let c = pick b (accepted (change_taken last begins lid (fragment_in lsdu).number tick (length (payload_of lsdu)) t)) (refused n) in
         let o = pick b (fragment_taken last begins lid (fragment_in lsdu).number tick (payload_of lsdu) t store output) (record { answer = refused n; table = t; store = store; output = output }) in
-        (fragment_answer c.answer ≡ o.answer) × (changed_by t c ≡ o.table)
+        (answered c ≡ o.answer) × (left t c ≡ o.table)
     go true true = (refl, refl)
     go true false = (refl, refl)
     go false last = (refl, refl)
 
-pub change_gives : {lid tick : ℕ} {lsdu : List ℕ} {t : Table} {store output : List ℕ} (c : Change) {after : Table} {store' output' : List ℕ}
-    → ChangeGives lid tick lsdu t store output c store' output' → after ≡ changed_by t c
-    → FragmentGives lid tick lsdu t store output (record { answer = c.answer; table = after }) store' output'
-change_gives {lid} {tick} {lsdu} {t} {store} {output} c g e =
-    let m = change_makes lid tick lsdu t store output in
-    record {
-      answer_is = ap (λ (x : Change). fragment_answer x.answer) g.change_is ∙ m.0;
-      table_is = e ∙ ap (changed_by t) g.change_is ∙ m.1;
-      store_is = g.store_is;
-      output_is = g.output_is;
-    }
+module _ {lid tick : ℕ} {lsdu : List ℕ} {t : Table} {store output store' output' : List ℕ} where
+  pub refused_gives : {e : Refusal} → ChangeGives lid tick lsdu t store output (Err e) store' output'
+      → FragmentGives lid tick lsdu t store output (Err e) t store' output'
+  unfolding answered left
+  refused_gives g =
+      let m = change_makes lid tick lsdu t store output in
+      record {
+        answer_is = ap answered g.change_is ∙ m.0;
+        table_is = ap (left t) g.change_is ∙ m.1;
+        store_is = g.store_is;
+        output_is = g.output_is;
+      }
+
+  pub change_gives : {c : Change} {after : Table} → ChangeGives lid tick lsdu t store output (Ok c) store' output' → after ≡ changed_by t c
+      → FragmentGives lid tick lsdu t store output (Ok c.accepted) after store' output'
+  unfolding answered left
+  change_gives g e =
+      let m = change_makes lid tick lsdu t store output in
+      record {
+        answer_is = ap answered g.change_is ∙ m.0;
+        table_is = e ∙ ap (left t) g.change_is ∙ m.1;
+        store_is = g.store_is;
+        output_is = g.output_is;
+      }

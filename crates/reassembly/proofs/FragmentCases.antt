@@ -15,7 +15,7 @@ use Rattle.slots.specs.declared.Table.{Table}
 use Rattle.slots.specs.Slots.{total, bit_at, each_sound, busy_slots, none_shares, no_two_share, is_sound, index_of, word_of}
 use Rattle.reassembly.specs.declared.Change.{Change}
 use Rattle.reassembly.specs.Checks.{payload_of, fragment_in}
-use Rattle.reassembly.specs.Engine.{Taken, facts_in, change_taken, fragment_taken, fragment_refusal, fragment_of, change_of, changed_for}
+use Rattle.reassembly.specs.Engine.{Taken, facts_in, change_taken, fragment_taken, fragment_refusal, fragment_of, change_of}
 use Rattle.reassembly.specs.Ledger.{joined}
 use Rattle.reassembly.specs.FragmentCases.{FragmentCasesHold}
 
@@ -23,15 +23,16 @@ Equal : ℕ → ℕ → Type 0
 Equal m n = m ≡ n
 
 -- the number of a refusal, and 0 for an accepted answer
-number_of : Answer Taken → ℕ
-number_of (refused number) = number
-number_of (accepted taken) = 0
+refused_with : Answer Taken → ℕ
+refused_with (refused number) = number
+refused_with (accepted taken) = 0
+
+refusing_with : Answer Change → ℕ
+refusing_with (refused number) = number
+refusing_with (accepted change) = 0
 
 busy_in : Table → ℕ
 busy_in table = table.busy
-
-index_in : Change → ℕ
-index_in change = change.index
 
 tick_in : Slot → ℕ
 tick_in slot = slot.tick
@@ -43,7 +44,7 @@ second : List ℕ → ℕ
 second l = get_or l 1 0
 
 pub fragment_cases_hold : FragmentCasesHold
-unfolding ones count_trailing_zeros first_of digits bits number field end_bit header_length counter_in length_for header_of read_refusal total bit_at each_sound busy_slots none_shares no_two_share is_sound index_of word_of payload_of fragment_in facts_in change_taken fragment_taken fragment_refusal fragment_of change_of changed_for joined Equal number_of busy_in index_in tick_in first second
+unfolding ones count_trailing_zeros first_of digits bits number field end_bit header_length counter_in length_for header_of read_refusal total bit_at each_sound busy_slots none_shares no_two_share is_sound index_of word_of payload_of fragment_in facts_in change_taken fragment_taken fragment_refusal fragment_of change_of joined Equal refused_with refusing_with busy_in tick_in first second
 fragment_cases_hold = record {
   refusing_first = refl;
   highest_counter = refl;
@@ -56,12 +57,13 @@ fragment_cases_hold = record {
   sweeps_reporting = refl;
   changed = refl;
   result = record { answer_is = refl; table_is = refl; store_is = refl; output_is = refl };
-  not_answer = λ g. let e : Equal 2 1 = ap number_of g.answer_is in omega arith;
+  not_answer = λ g. let e : Equal 2 1 = ap refused_with g.answer_is in omega arith;
   not_table = λ g. let e : Equal 0 1 = ap busy_in g.table_is in omega arith;
   not_store = λ g. let e : Equal 9 0xAA = ap first g.store_is in omega arith;
   not_output = λ g. let e : Equal 0xAA 9 = ap first g.output_is in omega arith;
   change_result = record { change_is = refl; store_is = refl; output_is = refl };
-  not_change = λ g. let e : Equal 0 8 = ap index_in g.change_is in omega arith;
+  not_change = λ g. let e : Equal 2 1 = ap refusing_with g.change_is in omega arith;
+  not_changed = λ g. let e : Equal 0 1 = ap refusing_with g.change_is in omega arith;
   not_change_store = λ g. let e : Equal 9 0xAA = ap first g.store_is in omega arith;
   not_change_output = λ g. let e : Equal 0xAA 9 = ap first g.output_is in omega arith;
   holds = record { inside = omega arith; busy = refl; slot = refl; octets = refl };

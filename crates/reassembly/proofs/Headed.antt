@@ -8,21 +8,22 @@ use lib.ListN.{length, length-drop}
 use borrow.Author.Tests.{eq-eqb, ne_eqb, ltb-false}
 use Rattle.refusals.specs.Check.{refused, accepted, decided}
 use Rattle.header.specs.declared.Header.{Header}
-use Rattle.header.specs.Header.{Fields, read_refusal, read_header, header_of, header_length}
+use Rattle.header.specs.declared.HeaderRead.{HeaderRead}
+use Rattle.header.specs.Header.{read_refusal, read_header, header_of, header_length}
 use Rattle.reassembly.specs.Checks.{fragment_in, payload_of}
 use Rattle.reassembly.proofs.Passed.{first_clear, no_fields}
 
 -- ---- what was read
 
-read_valid : (s : List ℕ) (k : ℕ) (h : Header) (n : ℕ) → decided {A = Fields} k (record { header = header_of s; size = header_length s }) ≡ accepted (record { header = h; size = n })
+read_valid : (s : List ℕ) (k : ℕ) (h : Header) (n : ℕ) → decided {A = HeaderRead} k (record { header = header_of s; size = header_length s }) ≡ accepted (record { header = h; size = n })
     → (k ≡ 0) × (h ≡ header_of s) × (n ≡ header_length s)
 unfolding decided
 read_valid s zero h n e =
-    let q : ◌≡◌ {A = Fields} (record { header = header_of s; size = header_length s }) (record { header = h; size = n }) = cc in
-    (refl, ap (λ (x : Fields). x.header) (sym q), ap (λ (x : Fields). x.size) (sym q))
+    let q : ◌≡◌ {A = HeaderRead} (record { header = header_of s; size = header_length s }) (record { header = h; size = n }) = cc in
+    (refl, ap (λ (x : HeaderRead). x.header) (sym q), ap (λ (x : HeaderRead). x.size) (sym q))
 read_valid s (suc k) h n e = let z : ◌≡◌ {A = ℕ} 0 1 = cc in absurd (omega arith)
 
-read_other : (s : List ℕ) (k j : ℕ) → decided {A = Fields} k (record { header = header_of s; size = header_length s }) ≡ refused j → (k ≡ 0 → ⊥)
+read_other : (s : List ℕ) (k j : ℕ) → decided {A = HeaderRead} k (record { header = header_of s; size = header_length s }) ≡ refused j → (k ≡ 0 → ⊥)
 unfolding decided
 read_other s zero j e = let z : ◌≡◌ {A = ℕ} 0 1 = cc in absurd (omega arith)
 read_other s (suc k) j e = λ z. omega (arith, z)

@@ -5,13 +5,14 @@ use mathlib.Core.List.{List, [], ◌∷◌}
 use Prim.Native.Nat.{ℕ, ◌+◌, ◌≤◌}
 use native.Mathlib.Omega.{arith}
 use lib.ListN.{length}
+use Rattle.std.specs.Prelude.{Result}
 use lib.Dec.{eqb}
 use lib.Count.{ones}
 use borrow.Author.Tests.{eqb-true, leb-false}
 use Rattle.refusals.specs.Check.{pick, Check, first_of, refused, accepted}
+use Rattle.refusals.specs.declared.Refusal.{Refusal}
 use Rattle.slots.specs.declared.Slot.{Slot}
 use Rattle.slots.specs.declared.Table.{Table}
-use Rattle.slots.specs.declared.SweepResult.{SweepResult}
 use Rattle.slots.specs.Slots.{free, is_busy, table_of, is_sound}
 use Rattle.slots.specs.Sweep.{Swept, is_aged, expiry_checks, release_checks, aged_slot, of_lid, freed, dropped_by, swept_by, expiry_of, release_of, sweep_answer, ExpiryGives, ReleaseGives}
 use Rattle.slots.specs.Model.{sound_slot, all_sound, shares_pair, none_like, distinct}
@@ -20,7 +21,7 @@ use Rattle.slots.proofs.WordLaws.{ones_word}
 use Rattle.slots.proofs.SoundLaws.{sound_whole, sound_at, next_held}
 use Rattle.slots.proofs.SweepLaws.{length_freed}
 use Rattle.reassembly.specs.declared.FragmentFields.{FragmentFields}
-use Rattle.reassembly.specs.declared.FragmentResult.{FragmentResult}
+use Rattle.reassembly.specs.declared.Accepted.{Accepted}
 use Rattle.reassembly.specs.declared.Facts.{Facts}
 use Rattle.reassembly.specs.Checks.{fragment_in, payload_of, fragment_checks}
 use Rattle.reassembly.specs.Engine.{slot_for, facts_in, fragment_taken, fragment_refusal, fragment_of, fragment_answer, FragmentGives}
@@ -99,16 +100,16 @@ module _ (f : Slot → Bool) (g : View → Bool) (agree : (p : Slot) (store : Li
       }
       go false = record { report_same = refl; inv = i; long = refl }
 
-module _ (t : Table) (store : List ℕ) (l : List Message) (i : Inv t store l) (r : SweepResult) where
-  pub expiry_agrees : (tick limit : ℕ) → ExpiryGives tick limit t r
-      → Agrees (sweep_report (sweep_answer r.answer)) r.table store (ledger_step (length store) (expiry tick limit) l) (length store)
+module _ (t : Table) (store : List ℕ) (l : List Message) (i : Inv t store l) (r : Result ℕ Refusal) (t' : Table) where
+  pub expiry_agrees : (tick limit : ℕ) → ExpiryGives tick limit t r t'
+      → Agrees (sweep_report (sweep_answer r)) t' store (ledger_step (length store) (expiry tick limit) l) (length store)
   unfolding expiry_of ledger_step ledger_refusal
   expiry_agrees tick limit h =
       moved (ap sweep_report h.answer_is) h.table_is refl
       (rw (sound_known i) (sweep_agrees (aged_slot tick limit) (λ v. is_aged tick limit v.tick) (λ p s. refl) t store l i (expiry_checks false)))
 
-  pub release_agrees : (lid : ℕ) → ReleaseGives lid t r
-      → Agrees (sweep_report (sweep_answer r.answer)) r.table store (ledger_step (length store) (release lid) l) (length store)
+  pub release_agrees : (lid : ℕ) → ReleaseGives lid t r t'
+      → Agrees (sweep_report (sweep_answer r)) t' store (ledger_step (length store) (release lid) l) (length store)
   unfolding release_of ledger_step ledger_refusal
   release_agrees lid h =
       moved (ap sweep_report h.answer_is) h.table_is refl
@@ -177,6 +178,6 @@ module _ (lid tick : ℕ) (lsdu : List ℕ) (t : Table) (store output : List ℕ
       go true e = taken_agrees (clear (eqb-true n 0 e))
       go false e = record { report_same = refl; inv = i; long = refl }
 
-  pub fragment_agrees : (r : FragmentResult) (store' output' : List ℕ) → FragmentGives lid tick lsdu t store output r store' output'
-      → Agrees (fragment_report (fragment_answer r.answer) output') r.table store' (ledger_step (length store) (fragment lid tick lsdu (length output)) l) (length store)
-  fragment_agrees r store' output' h = moved (λ j. fragment_report (h.answer_is j) (h.output_is j)) h.table_is h.store_is outcome_agrees
+  pub fragment_agrees : (r : Result Accepted Refusal) (t' : Table) (store' output' : List ℕ) → FragmentGives lid tick lsdu t store output r t' store' output'
+      → Agrees (fragment_report (fragment_answer r) output') t' store' (ledger_step (length store) (fragment lid tick lsdu (length output)) l) (length store)
+  fragment_agrees r t' store' output' h = moved (λ j. fragment_report (h.answer_is j) (h.output_is j)) h.table_is h.store_is outcome_agrees

@@ -112,14 +112,14 @@ along {t = t} {store = store} ended n l e i = record {
         × Delivers lid tick lsdu message kept
     none_delivered [] after lid tick output dropped lsdu message e = absurd (omega (arith, ap length e))
     none_delivered (x ∷ before) after lid tick output dropped lsdu message e = absurd (omega (arith, ap length e))
-along {t = t} {store = store} (fragmented {lid} {tick} {lsdu} {output} {calls} {history = history} {left = left} r store' output' g rest) n l e i =
-    let a : Agrees _ r.table store' (ledger_step n (fragment lid tick lsdu (length output)) l) n = rw e at (fragment_agrees lid tick lsdu t store output l i r store' output' g) in
+along {t = t} {store = store} (fragmented {lid} {tick} {lsdu} {output} {calls} {history = history} {left = left} r t' store' output' g rest) n l e i =
+    let a : Agrees _ t' store' (ledger_step n (fragment lid tick lsdu (length output)) l) n = rw e at (fragment_agrees lid tick lsdu t store output l i r t' store' output' g) in
     more n _ calls _ t store l history left i a (along rest n _ a.long a.inv)
-along {t = t} {store = store} (expired {tick} {limit} {calls} {history = history} {left = left} r g rest) n l e i =
-    let a : Agrees _ r.table store (ledger_step n (expiry tick limit) l) n = rw e at (expiry_agrees t store l i r tick limit g) in
+along {t = t} {store = store} (expired {tick} {limit} {calls} {history = history} {left = left} r t' g rest) n l e i =
+    let a : Agrees _ t' store (ledger_step n (expiry tick limit) l) n = rw e at (expiry_agrees t store l i r t' tick limit g) in
     more n _ calls _ t store l history left i a (along rest n _ a.long a.inv)
-along {t = t} {store = store} (released {lid} {calls} {history = history} {left = left} r g rest) n l e i =
-    let a : Agrees _ r.table store (ledger_step n (release lid) l) n = rw e at (release_agrees t store l i r lid g) in
+along {t = t} {store = store} (released {lid} {calls} {history = history} {left = left} r t' g rest) n l e i =
+    let a : Agrees _ t' store (ledger_step n (release lid) l) n = rw e at (release_agrees t store l i r t' lid g) in
     more n _ calls _ t store l history left i a (along rest n _ a.long a.inv)
 
 -- ---- the whole list

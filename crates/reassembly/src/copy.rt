@@ -7,11 +7,7 @@ pub(crate) fn copy(source: &[u8], target: &mut [u8], at: usize)
     requires { at + length source.now ≤ length target.old }
     ensures { target.new ≡ paste target.old at source.now (length source.now) }
 {
-    let mut i: usize = 0;
-    while i < source.len() {
-        target[at + i] = source[i];
-        i += 1;
-    }
+    target[at..at + source.len()].copy_from_slice(source);
 }
 
 // A part of the store to the front of the output.
@@ -19,6 +15,5 @@ pub(crate) fn copy_held(store: &[u8], at: usize, held: usize, output: &mut [u8])
     requires { (at + held ≤ length store.now) × (held ≤ length output.old) }
     ensures { output.new ≡ paste output.old 0 (take held (drop at store.now)) held }
 {
-    let end = at + held;
-    copy(&store[at..end], output, 0);
+    copy(&store[at..at + held], output, 0);
 }

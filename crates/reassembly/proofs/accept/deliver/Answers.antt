@@ -1,5 +1,7 @@
 -- What is held goes to the front of the output and the payload behind it.
-use mathlib.Core.Path.{ap, ◌∙◌}
+use mathlib.Core.Path.{◌≡◌, ap, ◌∙◌}
+use borrow.Author.Rules.{rules}
+use Rattle.slots.specs.Slots.{free}
 use mathlib.Core.List.{List}
 use Prim.Native.Nat.{ℕ, ◌*◌}
 use native.Mathlib.Omega.{arith}
@@ -16,4 +18,5 @@ returns c =
     let long = length-take-le a.before part (omega (arith, length-drop (512 * a.index) a.store.now)) in
     let front = ap (λ (l : List ℕ). paste l a.before a.payload.now (length a.payload.now)) c.copy_held.ensures in
     let written = c.copy.ensures ∙ front ∙ two_pastes a.output.now (take a.before part) a.payload.now a.before long (omega arith) in
-    record { change_is = rw c.free_slot.ensures; output_is = written }
+    let e : c.default.result ≡ free = search rules in
+    record { change_is = rw e; output_is = written }

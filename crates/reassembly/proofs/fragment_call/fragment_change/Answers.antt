@@ -1,33 +1,37 @@
 -- The two lists of checks are one behind the other, and what no check refuses is taken as defined.
 -- Assumes nothing.
-use Rattle.std.proofs.Common.{◌≡◌, length, rules}
+use Rattle.std.proofs.Common.{◌≡◌, length, refl, rules}
+use Rattle.std.proofs.lemmas.Result.{err_from_is_err_and}
 use Rattle.slots.proofs.Tests.{long}
 use Rattle.reassembly.proofs.CallLaws.{look, refusal_gives, early_gives, octets_in_law, asks, gives}
 use Rattle.reassembly.proofs.fragment_call.fragment_change.Goals as goal
 
-pub returns-then-early-ne0 : goal.returns-then-early-ne0
-returns-then-early-ne0 c = early_gives _ c.sound.ensures c.lsdu_refusal-early.ensures c.if-early-ne0.true c.refusal.ensures
+pub returns-in_err-check_lsdu : goal.returns-in_err-check_lsdu
+returns-in_err-check_lsdu c =
+    let p = err_from_is_err_and c.from_residual.result c.from_residual.ensures.1 in
+    rw (p.1, p.2) (early_gives c.in_err-check_lsdu.field-0.0 c.sound.ensures c.in_err-check_lsdu.ensures)
 
-pub returns-then-late-ne0 : goal.returns-then-late-ne0
-returns-then-late-ne0 c =
+pub returns-in_err-check_fragment : goal.returns-in_err-check_fragment
+returns-in_err-check_fragment c =
     let n : length c.args.table.slots ≡ 8 = search (rules, long) in
-    let l = look {store = c.args.store.now} {output = c.args.output.now} n c.sound.ensures c.lsdu_refusal-early.ensures c.if-early-ne0.false c.fragment_in-fragment.ensures c.find-index.ensures c.slot_at-slot.ensures c.facts_of-facts.ensures c.fragment_refusal-late.ensures in
-    refusal_gives _ l.refusal c.if-late-ne0.true c.refusal-then-late-ne0.ensures
+    let l = look {store = c.args.store.now} {output = c.args.output.now} n c.sound.ensures c.in_ok-check_lsdu.ensures refl c.fragment_in-fragment.ensures c.find-index.ensures c.slot_at-slot.ensures c.facts_of.ensures c.in_err-check_fragment.ensures in
+    let p = err_from_is_err_and c.from_residual-in_err-check_fragment.result c.from_residual-in_err-check_fragment.ensures.1 in
+    rw (p.1, p.2) (refusal_gives c.in_err-check_fragment.field-0.0 l.refusal)
 
 pub overflow_sub-start : goal.overflow_sub-start
 overflow_sub-start c =
     let n : length c.args.table.slots ≡ 8 = search (rules, long) in
-    let l = look {store = c.args.store.now} {output = c.args.output.now} n c.sound.ensures c.lsdu_refusal-early.ensures c.if-early-ne0.false c.fragment_in-fragment.ensures c.find-index.ensures c.slot_at-slot.ensures c.facts_of-facts.ensures c.fragment_refusal-late.ensures in
-    octets_in_law l c.if-late-ne0.false
+    let l = look {store = c.args.store.now} {output = c.args.output.now} n c.sound.ensures c.in_ok-check_lsdu.ensures refl c.fragment_in-fragment.ensures c.find-index.ensures c.slot_at-slot.ensures c.facts_of.ensures c.in_ok-check_fragment.ensures in
+    octets_in_law l refl
 
 pub accept-requires : goal.accept-requires
 accept-requires c =
     let n : length c.args.table.slots ≡ 8 = search (rules, long) in
-    let l = look {store = c.args.store.now} {output = c.args.output.now} n c.sound.ensures c.lsdu_refusal-early.ensures c.if-early-ne0.false c.fragment_in-fragment.ensures c.find-index.ensures c.slot_at-slot.ensures c.facts_of-facts.ensures c.fragment_refusal-late.ensures in
-    asks l c.if-late-ne0.false c.lowest_free-lowest.ensures
+    let l = look {store = c.args.store.now} {output = c.args.output.now} n c.sound.ensures c.in_ok-check_lsdu.ensures refl c.fragment_in-fragment.ensures c.find-index.ensures c.slot_at-slot.ensures c.facts_of.ensures c.in_ok-check_fragment.ensures in
+    asks l refl c.lowest_free-lowest.ensures
 
 pub returns : goal.returns
 returns c =
     let n : length c.args.table.slots ≡ 8 = search (rules, long) in
-    let l = look {store = c.args.store.now} {output = c.args.output.now} n c.sound.ensures c.lsdu_refusal-early.ensures c.if-early-ne0.false c.fragment_in-fragment.ensures c.find-index.ensures c.slot_at-slot.ensures c.facts_of-facts.ensures c.fragment_refusal-late.ensures in
-    gives l c.if-late-ne0.false c.lowest_free-lowest.ensures c.accept.ensures
+    let l = look {store = c.args.store.now} {output = c.args.output.now} n c.sound.ensures c.in_ok-check_lsdu.ensures refl c.fragment_in-fragment.ensures c.find-index.ensures c.slot_at-slot.ensures c.facts_of.ensures c.in_ok-check_fragment.ensures in
+    gives l refl c.lowest_free-lowest.ensures c.accept.ensures

@@ -1,7 +1,7 @@
 -- Each test that holds is the first of the list to hold.
 use mathlib.Core.Path.{sym, ◌∙◌}
 use Rattle.refusals.specs.Check.{first_of}
-use Rattle.reassembly.proofs.checks.pair_refusal.Goals as goal
+use Rattle.reassembly.proofs.checks.check_pair.Goals as goal
 
 pub returns-then-is_not_open : goal.returns-then-is_not_open
 unfolding first_of

@@ -2,7 +2,7 @@
 use mathlib.Core.Path.{◌∙◌}
 use borrow.Author.Tests.{eq-eqb, ne_eqb, lt-ltb, le-ltb}
 use Rattle.refusals.specs.Check.{first_of}
-use Rattle.reassembly.proofs.checks.fragment_refusal.Goals as goal
+use Rattle.reassembly.proofs.checks.check_fragment.Goals as goal
 
 pub returns-then-not-fragment : goal.returns-then-not-fragment
 unfolding first_of
@@ -18,4 +18,4 @@ returns-then-fragment-eq0 c = simp (c.if-not-fragment.false, le-ltb _ _ c.if-fra
 
 pub returns : goal.returns
 unfolding first_of
-returns c = c.pair_refusal.ensures ∙ rw (c.if-not-fragment.false, le-ltb _ _ c.if-fragment-lt-LOWEST_NUMBER.false, ne_eqb _ _ c.if-fragment-eq0.false)
+returns c = c.check_pair.ensures ∙ rw (c.if-not-fragment.false, le-ltb _ _ c.if-fragment-lt-LOWEST_NUMBER.false, ne_eqb _ _ c.if-fragment-eq0.false)
