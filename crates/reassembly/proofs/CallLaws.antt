@@ -10,12 +10,12 @@ use lib.ListN.{length, get_or, take, drop, length-drop, get_or-eq_default}
 use lib.Seq.{take_all}
 use lib.Count.{ones}
 use lib.Dec.{eqb}
-use borrow.Author.Tests.{eq-eqb, ne_eqb, leb-false}
-use Rattle.std.specs.Prelude.{Result, Ok, Err}
+use borrow.Author.Tests.{eq-eqb, leb-false}
+use Rattle.std.specs.Prelude.{Ok, Err}
 use Rattle.refusals.specs.Check.{pick, Check, first_of, Answer, refused, accepted}
 use Rattle.refusals.specs.declared.Refusal.{Refusal}
 use Rattle.refusals.specs.declared.Refusal.TheVariants as refusal
-use Rattle.refusals.specs.Refusal.{number_of, answer_of}
+use Rattle.refusals.specs.Refusal.{number_of}
 use Rattle.header.specs.Header.{header_length}
 use Rattle.slots.specs.declared.Slot.{Slot}
 use Rattle.slots.specs.declared.Table.{Table}
@@ -29,9 +29,8 @@ use Rattle.reassembly.specs.declared.FragmentFields.{FragmentFields}
 use Rattle.reassembly.specs.declared.Facts.{Facts}
 use Rattle.reassembly.specs.declared.Arrival.{Arrival}
 use Rattle.reassembly.specs.declared.Change.{Change}
-use Rattle.reassembly.specs.declared.Accepted.{Accepted}
 use Rattle.reassembly.specs.Checks.{fragment_in, payload_of, lsdu_checks, header_checks, pair_checks}
-use Rattle.reassembly.specs.Engine.{Taken, slot_for, facts_from, facts_in, fragment_refusal, change_taken, fragment_taken, fragment_of, change_of, taken_of, fragment_answer, changed_by, ChangeGives, FragmentGives}
+use Rattle.reassembly.specs.Engine.{Taken, slot_for, facts_from, facts_in, fragment_refusal, change_taken, fragment_taken, fragment_of, change_of, taken_of, changed_by, ChangeGives, FragmentGives}
 use Rattle.reassembly.specs.Accept.{AcceptAsks, AcceptGives}
 use Rattle.reassembly.proofs.Joins.{lowest_is}
 use Rattle.reassembly.proofs.Passed.{Numbered, first_append, Passed, passed, valid_is, valid_refusal}

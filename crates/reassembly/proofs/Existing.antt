@@ -1,16 +1,15 @@
 -- Every list of calls has a run: each call's definition gives an answer that meets its contract. Assumes nothing.
-use mathlib.Core.Path.{◌≡◌, refl, sym, ap, subst, ◌∙◌}
+use mathlib.Core.Path.{◌≡◌, refl, ap, subst}
 use mathlib.Core.Bool.{Bool, true, false, not}
 use mathlib.Core.List.{List, [], ◌∷◌, map}
 use Prim.Native.Nat.{ℕ}
-use native.Mathlib.Omega.{arith}
 use lib.ListN.{length, replicate, length-replicate}
 use lib.Dec.{eqb}
 use Rattle.std.specs.Prelude.{Result, Ok, Err}
 use Rattle.refusals.specs.declared.Refusal.{Refusal}
 use Rattle.refusals.specs.declared.Refusal.TheVariants.{StoreOrOutputLength, TableNotSound, LidOutOfRange, LsduLength, HeaderNotValid, NumberReserved, NoPayload, NotOpen, NoFreeSlot, CounterNotExpected, CounterExhausted, MessageTooLong}
 use Rattle.refusals.specs.Refusal.{number_of}
-use Rattle.refusals.specs.Check.{pick, Check, first_of, Answer, refused, accepted}
+use Rattle.refusals.specs.Check.{pick, Check, first_of, refused, accepted}
 use Rattle.slots.specs.declared.Slot.{Slot}
 use Rattle.slots.specs.declared.Table.{Table}
 use Rattle.slots.specs.Slots.{is_sound, table_of}

@@ -7,7 +7,7 @@ use Rattle.refusals.specs.declared.Refusal.{Refusal}
 use Rattle.refusals.specs.Refusal.{number_of, answer_of}
 use Rattle.slots.specs.declared.Slot.{Slot}
 use Rattle.slots.specs.declared.Table.{Table}
-use Rattle.slots.specs.Slots.{slot_count, slot_octets, free, is_busy, index_of, is_full, lowest_free, table_of, is_sound}
+use Rattle.slots.specs.Slots.{slot_octets, free, is_busy, index_of, is_full, lowest_free, table_of, is_sound}
 use Rattle.reassembly.specs.declared.Facts.{Facts}
 use Rattle.reassembly.specs.declared.Accepted.{Accepted}
 use Rattle.reassembly.specs.declared.Accepted.TheVariants.{Held, Whole}

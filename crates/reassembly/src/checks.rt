@@ -72,11 +72,7 @@ fn is_exhausted(fragment: FragmentFields, facts: Facts) -> bool
 fn is_too_long(fragment: FragmentFields, facts: Facts) -> bool
     ensures { result ≡ ltb slot_octets (pick (eqb fragment.counter 0) 0 facts.held + fragment.octets) }
 {
-    let held = if fragment.counter == 0 {
-        0
-    } else {
-        facts.held
-    };
+    let held = if fragment.counter == 0 { 0 } else { facts.held };
     exceeds(held, fragment.octets)
 }
 
