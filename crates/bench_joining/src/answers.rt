@@ -12,6 +12,7 @@ use refusals::Refusal;
 const FIRST_WITH_PAIR: Refusal = Refusal::NoPayload;
 
 // The columns of an answer, where `held` octets are held for the pair after the call, and the fragment has `payload` octets.
+#[tactic(auto, unfolding(crate::specs::Columns::columns_of))]
 pub(crate) fn columns(answer: Result<Accepted, Refusal>, held: usize, payload: usize) -> Columns
     ensures { result ≡ columns_of answer held payload }
 {
@@ -34,6 +35,7 @@ pub(crate) fn columns(answer: Result<Accepted, Refusal>, held: usize, payload: u
     }
 }
 
+#[tactic(auto, using(std::proofs::lemmas::Bool::Decides::nat_tests), unfolding(crate::specs::Columns::refused_columns))]
 fn refused(refusal: Refusal, held: usize) -> Columns
     ensures { result ≡ refused_columns (number_of refusal) held }
 {
@@ -43,6 +45,7 @@ fn refused(refusal: Refusal, held: usize) -> Columns
 }
 
 // The columns of a refusal.
+#[tactic(auto, unfolding(crate::specs::Columns::refused_with))]
 pub fn no_octets(number: u8, octets: usize) -> Columns
     ensures { result ≡ refused_with number octets }
 {

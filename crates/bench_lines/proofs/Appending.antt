@@ -22,14 +22,6 @@ use Rattle.bench_lines.specs.declared.Totals.{Totals}
 use Rattle.bench_lines.proofs.Decimal.{digits_append, length_digits}
 
 module _ (room at octets : ℕ) where
-  pub too_long : room < octets → leb octets room ≡ has_room room at octets
-  unfolding has_room
-  too_long h = simp (lt-leb octets room h, lt-leb (at + octets) room (omega arith))
-
-  pub starts_inside : octets ≤ room → leb at (room - octets) ≡ has_room room at octets
-  unfolding has_room
-  starts_inside h = leb_same at (room - octets) (at + octets) room (λ k. omega arith) (λ k. omega arith)
-
   pub room_found : {r : Bool} → r ≡ has_room room at octets → r ≡ true → at + octets ≤ room
   unfolding has_room
   room_found {r} e t = leb-true (at + octets) room (sym e ∙ t)

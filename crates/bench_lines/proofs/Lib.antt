@@ -1,12 +1,10 @@
 pub mod Appending
 pub mod Decimal
 pub mod Form
-pub mod HexLines
 pub mod Keeping
 pub mod Marks
 pub mod Parts
 pub mod Reading
 pub mod RoundTrip
 pub mod Spelling
-pub mod Tests
 pub mod LineCases

@@ -1,4 +1,4 @@
--- Laws of reading digits: the ways out of a digit's value, and what a loop over digits keeps, one turn at a time.
+-- Laws of reading digits: what a loop over digits keeps, one turn at a time.
 -- Assumes nothing.
 use mathlib.Core.Path.{◌≡◌, refl, ap, sym, ◌∙◌}
 use mathlib.Core.Bool.{Bool, true, false, ◌&&◌}
@@ -17,32 +17,6 @@ use lib.Seq.{drop-cons, paste, paste-suc, take_all}
 use borrow.Author.Tests.{le-leb, lt-leb, leb-true, lt-ltb, le-ltb, ltb-true}
 use Rattle.bench_lines.specs.Numerals.{digit_value, all_digits, spelled_after, octets_of}
 use Rattle.bench_lines.specs.Inside.{small}
-
--- ---- the value of a digit
-
-module _ (c : ℕ) where
-  pub value_decimal : 48 ≤ c → c ≤ 57 → digit_value c ≡ c - 48
-  unfolding digit_value
-  value_decimal h k = simp (le-leb 48 c h, le-leb c 57 k)
-
-  pub value_upper : 65 ≤ c → c ≤ 70 → digit_value c ≡ c - 55
-  unfolding digit_value
-  value_upper h k = simp (le-leb 48 c (omega arith), lt-leb c 57 (omega arith), le-leb 65 c h, le-leb c 70 k)
-
-  pub value_lower : 97 ≤ c → c ≤ 102 → digit_value c ≡ c - 87
-  unfolding digit_value
-  value_lower h k =
-      simp (le-leb 48 c (omega arith), lt-leb c 57 (omega arith), le-leb 65 c (omega arith), lt-leb c 70 (omega arith), le-leb 97 c h, le-leb c 102 k)
-
-  outside : (low high : ℕ) → (low ≤ c → c ≤ high → ⊥) → (leb low c && leb c high) ≡ false
-  outside low high h =
-      by_cases (leb low c)
-      (λ t. by_cases (leb c high) (λ u. absurd (h (leb-true low c t) (leb-true c high u))) (λ u. simp (t, u)))
-      (λ t. simp t)
-
-  pub value_other : (48 ≤ c → c ≤ 57 → ⊥) → (65 ≤ c → c ≤ 70 → ⊥) → (97 ≤ c → c ≤ 102 → ⊥) → digit_value c ≡ 16
-  unfolding digit_value
-  value_other f g h = simp (outside 48 57 f, outside 65 70 g, outside 97 102 h)
 
 -- ---- a loop over the characters of s
 

@@ -4,6 +4,7 @@ ghost use Rattle.bench_lines.specs.Numerals.{digit_value, all_digits, spelled, o
 ghost use Rattle.bench_lines.specs.Inside.{small};
 
 // The value of a hex digit of either case; 16 for any other character.
+#[tactic(auto, using(std::proofs::lemmas::Bool::Decides::nat_tests), unfolding(crate::specs::Numerals::digit_value))]
 fn digit_value(c: u8) -> u64
     ensures { (result ≡ digit_value c) × (result ≤ 16) }
 {

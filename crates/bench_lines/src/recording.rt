@@ -21,6 +21,7 @@ pub(crate) fn find(s: &[u8], from: usize, mark: u8) -> usize
 }
 
 // Whether a line's three texts are a LID of hex digits, a tick and an LSDU.
+#[tactic(auto, using(std::proofs::lemmas::Bool::Decides::nat_tests), unfolding(crate::specs::Inside::are_fields, crate::specs::Inside::small))]
 fn are_fields(lid: &[u8], tick: &[u8], lsdu: &[u8]) -> bool
     ensures { result ≡ are_fields lid.now tick.now lsdu.now }
 {

@@ -7,6 +7,7 @@ use crate::LINE_FEED;
 use crate::recording::find;
 
 // The place of the first line feed from place `from` on, or the input's end.
+#[tactic(auto, unfolding(crate::specs::Splitting::line_end))]
 pub fn line_end(input: &[u8], from: usize) -> usize
     ensures { result ≡ line_end input.now from }
 {

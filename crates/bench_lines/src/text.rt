@@ -9,6 +9,7 @@ use crate::{BenchAnswer, LINE_FEED, SPACE, Totals};
 use refusals::Refusal;
 
 // Whether so many octets lie inside a buffer from place `at` on.
+#[tactic(auto, using(std::proofs::lemmas::Bool::Decides::nat_tests), unfolding(crate::specs::Text::has_room))]
 fn has_room(room: usize, at: usize, octets: usize) -> bool
     ensures { result ≡ has_room room at octets }
 {
