@@ -20,50 +20,52 @@ use Rattle.initialisation.specs.declared.records.BstResult.{BstResult}
 use Rattle.initialisation.specs.declared.records.BstAnswer.TheVariants as answer
 use Rattle.initialisation.specs.Link.{lid_in_range, link_in_range}
 use Rattle.initialisation.specs.Elements.{element_sound, none_has, each_sound, own_elements, elements_sound}
-use Rattle.initialisation.specs.Offer.{Found, nothing, found, or_else, first_served, profile_of, offered_by, element_of, pair_of}
+use Rattle.std.specs.Prelude.{Option, None, Some}
+use Rattle.initialisation.specs.Offer.{or_else, first_served, profile_of, offered_by, element_of, pair_of}
 use Rattle.initialisation.specs.Known.{is_known}
-use Rattle.initialisation.specs.Hearing.{Call, configuration_in_range, records_in_range, hearing_checks, hearing_refusal, Taken, both, beacon_of, sent_for, sent, woken, reply_of, heard_of, BstGives}
+use Rattle.initialisation.specs.declared.hearing.Taken.{Taken}
+use Rattle.initialisation.specs.Hearing.{Call, configuration_in_range, records_in_range, hearing_checks, hearing_refusal, both, beacon_of, sent_for, sent, woken, reply_of, heard_of, BstGives}
 use Rattle.initialisation.specs.Searching.{Sends}
 use Rattle.initialisation.proofs.BstLaws.{profiles_inside, time_fits}
 use Rattle.initialisation.proofs.VstLaws.{Sendable}
 
 -- ---- what is found
 
-served_low : (l : List ℕ) (p : ℕ) → first_served l ≡ found p → p ≤ 1
+served_low : (l : List ℕ) (p : ℕ) → first_served l ≡ Some p → p ≤ 1
 unfolding first_served
 served_low [] p h = let z : ◌≡◌ {A = ℕ} 0 1 = cc in absurd (omega arith)
 served_low (x ∷ l) p h =
-    by_test (λ (f : Found ℕ). f ≡ found p → p ≤ 1) (leb x 1) (λ t h. let e : x ≡ p = cc in omega (arith, leb-true x 1 t)) (λ t h. served_low l p h) h
+    by_test (λ (f : Option ℕ). f ≡ Some p → p ≤ 1) (leb x 1) (λ t h. let e : x ≡ p = cc in omega (arith, leb-true x 1 t)) (λ t h. served_low l p h) h
 
-either : {A : Type 0} {P : Type 0} (a b : Found A) {x : A} → (a ≡ found x → P) → (b ≡ found x → P) → or_else a b ≡ found x → P
-either nothing b f g h = g h
-either (found y) b f g h = f h
+either : {A : Type 0} {P : Type 0} (a b : Option A) {x : A} → (a ≡ Some x → P) → (b ≡ Some x → P) → or_else a b ≡ Some x → P
+either None b f g h = g h
+either (Some y) b f g h = f h
 
-element_sound_law : (octets : ℕ) (es : List Element) (aid : ℕ) (e : Element) → each_sound octets es ≡ true → element_of aid es ≡ found e → element_sound octets e ≡ true
+element_sound_law : (octets : ℕ) (es : List Element) (aid : ℕ) (e : Element) → each_sound octets es ≡ true → element_of aid es ≡ Some e → element_sound octets e ≡ true
 unfolding element_of each_sound
 element_sound_law octets [] aid e s h = let z : ◌≡◌ {A = ℕ} 0 1 = cc in absurd (omega arith)
 element_sound_law octets (x ∷ es) aid e s h =
     let a = both_true (element_sound octets x) (none_has x.eid es && each_sound octets es) s in
     let b = both_true (none_has x.eid es) (each_sound octets es) a.1 in
-    by_test (λ (f : Found Element). f ≡ found e → element_sound octets e ≡ true) (eqb x.aid aid) (λ t h. let i : x ≡ e = cc in rw (← i) a.0)
+    by_test (λ (f : Option Element). f ≡ Some e → element_sound octets e ≡ true) (eqb x.aid aid) (λ t h. let i : x ≡ e = cc in rw (← i) a.0)
     (λ t h. element_sound_law octets es aid e b.1 h) h
 
-pair_sound : (octets : ℕ) (es : List Element) (os : List Entry) (e : Element) → each_sound octets es ≡ true → pair_of os es ≡ found e → element_sound octets e ≡ true
+pair_sound : (octets : ℕ) (es : List Element) (os : List Entry) (e : Element) → each_sound octets es ≡ true → pair_of os es ≡ Some e → element_sound octets e ≡ true
 unfolding pair_of
 pair_sound octets es [] e s h = let z : ◌≡◌ {A = ℕ} 0 1 = cc in absurd (omega arith)
 pair_sound octets es (o ∷ os) e s h = either (element_of o.aid es) (pair_of os es) (λ k. element_sound_law octets es o.aid e s k) (λ k. pair_sound octets es os e s k) h
 
 -- both are found
-pub record Parts (f : Found ℕ) (g : Found Element) (t : Taken) : Type 0 where
-  pub profile : f ≡ found t.profile
-  pub element : g ≡ found t.element
+pub record Parts (f : Option ℕ) (g : Option Element) (t : Taken) : Type 0 where
+  pub profile : f ≡ Some t.profile
+  pub element : g ≡ Some t.element
 
-parts : (f : Found ℕ) (g : Found Element) (t : Taken) → both f g ≡ found t → Parts f g t
-parts nothing g t h = let z : ◌≡◌ {A = ℕ} 0 1 = cc in absurd (omega arith)
-parts (found p) nothing t h = let z : ◌≡◌ {A = ℕ} 0 1 = cc in absurd (omega arith)
-parts (found p) (found e) t h =
+parts : (f : Option ℕ) (g : Option Element) (t : Taken) → both f g ≡ Some t → Parts f g t
+parts None g t h = let z : ◌≡◌ {A = ℕ} 0 1 = cc in absurd (omega arith)
+parts (Some p) None t h = let z : ◌≡◌ {A = ℕ} 0 1 = cc in absurd (omega arith)
+parts (Some p) (Some e) t h =
     let i : record { profile = p; element = e } ≡ t = cc in
-    record { profile = ap (λ (u : Taken). found u.profile) i; element = ap (λ (u : Taken). found u.element) i }
+    record { profile = ap (λ (u : Taken). Some u.profile) i; element = ap (λ (u : Taken). Some u.element) i }
 
 -- ---- the checks
 
@@ -102,16 +104,16 @@ choosable c h =
     (k.few, profiles_inside c.lent c.bst c.lists.entries c.lists.rows k.formed, time_fits c.lent c.bst c.lists.entries c.lists.rows k.formed)
 
 -- what is sent was taken
-pub taken_parts : (c : Call) (t : Taken) → found t ≡ sent c → Parts (profile_of c.lent c.bst) (pair_of (offered_by c.bst c.lists.entries) (own_elements c.own)) t
+pub taken_parts : (c : Call) (t : Taken) → Some t ≡ sent c → Parts (profile_of c.lent c.bst) (pair_of (offered_by c.bst c.lists.entries) (own_elements c.own)) t
 unfolding sent_for
 taken_parts c t s =
     let f = profile_of c.lent c.bst in
     let g = pair_of (offered_by c.bst c.lists.entries) (own_elements c.own) in
-    by_test (λ (x : Found Taken). x ≡ found t → Parts f g t) (is_known c.link.phase c.link.time (beacon_of c.bst) c.bst.time)
+    by_test (λ (x : Option Taken). x ≡ Some t → Parts f g t) (is_known c.link.phase c.link.time (beacon_of c.bst) c.bst.time)
     (λ x e. let z : ◌≡◌ {A = ℕ} 0 1 = cc in absurd (omega arith)) (λ x e. parts f g t e) (sym s)
 
 -- what is sent can be sent
-pub sendable : (c : Call) (t : Taken) → hearing_refusal c ≡ 0 → found t ≡ sent c → Sendable c.marks t c.configuration
+pub sendable : (c : Call) (t : Taken) → hearing_refusal c ≡ 0 → Some t ≡ sent c → Sendable c.marks t c.configuration
 sendable c t h s =
     let k = checked c h in
     let p = taken_parts c t s in
@@ -123,9 +125,9 @@ sendable c t h s =
 
 -- ---- what is decided
 
-pub chosen : (link : Link) (bst : Bst) (entries : List Entry) (lent : List ℕ) (own : Elements) {known : Bool} {b : Beacon} {f : Found ℕ} {g : Found Element}
+pub chosen : (link : Link) (bst : Bst) (entries : List Entry) (lent : List ℕ) (own : Elements) {known : Bool} {b : Beacon} {f : Option ℕ} {g : Option Element}
     → known ≡ is_known link.phase link.time b bst.time → b ≡ beacon_of bst → f ≡ profile_of lent bst → g ≡ pair_of (offered_by bst entries) (own_elements own)
-    → pick known nothing (both f g) ≡ sent_for link bst entries lent own
+    → pick known None (both f g) ≡ sent_for link bst entries lent own
 unfolding sent_for
 chosen link bst entries lent own e h i j = rw (e, h, i, j)
 
@@ -139,14 +141,14 @@ module _ (c : Call) {r : BstResult} where
       record { reply_is = ap reply_of x.0 ∙ rw (k, e); link_is = x.1 ∙ rw k; output_is = rw k }
 
   module _ (h : hearing_refusal c ≡ 0) where
-    pub silent_gives : {p : Phase} → nothing ≡ sent c → p ≡ woken c.link.phase
+    pub silent_gives : {p : Phase} → None ≡ sent c → p ≡ woken c.link.phase
         → (r.answer ≡ answer.Silent) × (r.link ≡ record { time = c.bst.time; tick = c.tick; phase = p }) → BstGives c r c.out
     unfolding heard_of
     silent_gives s e x =
         let k = eq-eqb (hearing_refusal c) 0 h in
         record { reply_is = ap reply_of x.0 ∙ rw (k, sym s); link_is = x.1 ∙ rw (k, sym s, e); output_is = rw (k, sym s) }
 
-    pub started_gives : (t : Taken) {b : Beacon} {n : ℕ} {out : List ℕ} → found t ≡ sent c → b ≡ beacon_of c.bst
+    pub started_gives : (t : Taken) {b : Beacon} {n : ℕ} {out : List ℕ} → Some t ≡ sent c → b ≡ beacon_of c.bst
         → Sends t.profile t.element c.configuration c.marks n c.out out
         → (r.answer ≡ answer.Vst n) × (r.link ≡ record { time = c.bst.time; tick = c.tick; phase = Ready b c.lid }) → BstGives c r out
     unfolding heard_of

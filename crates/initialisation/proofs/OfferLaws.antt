@@ -1,9 +1,9 @@
 -- The search for a profile and for the pair, one step at a time.
 -- Assumes nothing.
-use Rattle.std.proofs.Common.{◌≡◌, ℕ, suc, ◌+◌, ◌-◌, ◌*◌, ◌/◌, ◌%◌, ◌<◌, ◌≤◌, true, false, not, List, [], ◌∷◌, ◌++◌, length, get_or, take, drop, sym, refl, ap, ◌∙◌, ap₂, append-nil, arith, length-drop, take-append-drop, drop_of_length-le, length-take-le, take_all, get_or-take, drop-drop, take-add, le-ltb, lt-ltb, eq-eqb, ne_eqb, le-leb}
-use lib.Seq.{take-nil}
-use borrow.Author.Tests.{lt-leb, not-true, not-false}
-use Rattle.refusals.proofs.Tests.{by_test}
+use Rattle.std.proofs.Common.{◌≡◌, ℕ, suc, ◌+◌, ◌-◌, ◌*◌, ◌/◌, ◌%◌, ◌<◌, ◌≤◌, Bool, true, false, ltb, ltb-true, ltb-false, List, [], ◌∷◌, ◌++◌, length, get_or, take, drop, sym, refl, ap, ◌∙◌, ap₂, append-nil, arith, length-drop, take-append-drop, drop_of_length-le, length-take-le, take_all, get_or-take, drop-drop, take-add, le-ltb, lt-ltb, eq-eqb, ne_eqb, le-leb}
+use borrow.Author.Tests.{lt-leb}
+use Rattle.refusals.specs.Check.{pick}
+use Rattle.refusals.proofs.Tests.{by_cases}
 use Rattle.bits.specs.Bits.{bits, number, field, read_field}
 use Rattle.bits.specs.Strings.{string_at}
 use Rattle.bits.proofs.Laws.{drop_bits}
@@ -12,117 +12,72 @@ use Rattle.apdu.specs.declared.records.Bst.{Bst}
 use Rattle.apdu.specs.Values.{empty_entry}
 use Rattle.initialisation.specs.declared.records.Element.{Element}
 use Rattle.initialisation.specs.Elements.{no_element}
-use Rattle.initialisation.specs.Offer.{Found, nothing, found, or_else, first_served, offered_by, element_of, pair_of}
-use Rattle.initialisation.specs.Searching.{pair_at, Counts}
-use Rattle.initialisation.proofs.Lists.{rest_more, rest_none}
+use Rattle.std.specs.Prelude.{Option, None, Some}
+use Rattle.initialisation.specs.Offer.{or_else, first_served, offered_by, element_of, pair_of}
+use Rattle.initialisation.specs.Searching.{Counts}
+use Rattle.initialisation.proofs.Lists.{next_more, next_none}
 
-module _ (list : List Element) (n : ℕ) (fits : n ≤ length list) where
-  abbrev es : List Element
-  es = take n list
+module _ (es : List Element) (j : ℕ) where
+  abbrev at : Element
+  at = get_or es j no_element
 
-  abbrev at : ℕ → Element
-  at j = get_or list j no_element
+  module _ (aid : ℕ) where
+    module _ (h : j < length es) where
+      pub element_here : at.aid ≡ aid → element_of aid (drop j es) ≡ Some at
+      unfolding element_of
+      element_here e = ap (element_of aid) (next_more no_element es j h) ∙ rw (eq-eqb at.aid aid e)
 
-  pub element_here : (aid j : ℕ) → j < n → (at j).aid ≡ aid → element_of aid (drop j es) ≡ found (at j)
-  unfolding element_of
-  element_here aid j h e = ap (element_of aid) (rest_more no_element list n fits j h) ∙ rw (eq-eqb (at j).aid aid e)
+      pub element_next : (at.aid ≡ aid → ⊥) → element_of aid (drop j es) ≡ element_of aid (drop (j + 1) es)
+      unfolding element_of
+      element_next e = ap (element_of aid) (next_more no_element es j h) ∙ rw (ne_eqb at.aid aid e)
 
-  pub element_next : (aid j : ℕ) → j < n → ((at j).aid ≡ aid → ⊥) → element_of aid (drop j es) ≡ element_of aid (drop (j + 1) es)
-  unfolding element_of
-  element_next aid j h e = ap (element_of aid) (rest_more no_element list n fits j h) ∙ rw (ne_eqb (at j).aid aid e)
+    pub element_none : length es ≤ j → element_of aid (drop j es) ≡ None
+    unfolding element_of
+    element_none h = ap (element_of aid) (next_none es j h)
 
-  pub element_none : (aid j : ℕ) → j ≡ n → element_of aid (drop j es) ≡ nothing
-  unfolding element_of
-  element_none aid j e = ap (element_of aid) (rest_none no_element list n fits j e)
+module _ (es : List Element) (os : List Entry) (i : ℕ) where
+  abbrev aid : ℕ
+  aid = (get_or os i empty_entry).aid
 
-  place_is : (j : ℕ) → j < n → pair_at j es ≡ found (at j)
-  unfolding pair_at
-  place_is j h =
-      let m = length-take-le n list fits in
-      rw (lt-ltb j (length es) (omega arith), get_or-take n list j no_element h)
-
-  place_none : (j : ℕ) → n ≤ j → pair_at j es ≡ nothing
-  unfolding pair_at
-  place_none j h = let m = length-take-le n list fits in rw (le-ltb j (length es) (omega arith))
-
-  module _ (entries : List Entry) (offered : ℕ) (all : offered ≤ length entries) where
-    abbrev os : List Entry
-    os = take offered entries
-
-    abbrev aid : ℕ → ℕ
-    aid i = (get_or entries i empty_entry).aid
-
-    pair_step : (i : ℕ) → i < offered → pair_of (drop i os) es ≡ or_else (element_of (aid i) es) (pair_of (drop (i + 1) os) es)
+  module _ (h : i < length os) where
+    pair_step : pair_of (drop i os) es ≡ or_else (element_of aid es) (pair_of (drop (i + 1) os) es)
     unfolding pair_of
-    pair_step i h = ap (λ (l : List Entry). pair_of l es) (rest_more empty_entry entries offered all i h)
+    pair_step = ap (λ (l : List Entry). pair_of l es) (next_more empty_entry os i h)
 
-    module _ (i j : ℕ) (so : pair_of os es ≡ pair_of (drop i os) es) where
-      module _ (h : i < offered) (now : element_of (aid i) es ≡ element_of (aid i) (drop j es)) where
-        pub pair_found : j < n → (at j).aid ≡ aid i → pair_at j es ≡ pair_of os es
-        pair_found k e =
-            place_is j k
-            ∙ sym (so ∙ pair_step i h ∙ ap (λ (f : Found Element). or_else f (pair_of (drop (i + 1) os) es)) (now ∙ element_here (aid i) j k e))
+    pub pair_found : {e : Element} → element_of aid es ≡ Some e → pair_of (drop i os) es ≡ Some e
+    pair_found f = pair_step ∙ rw f
 
-        pub pair_next : j ≡ n → pair_of os es ≡ pair_of (drop (i + 1) os) es
-        pair_next e = so ∙ pair_step i h ∙ ap (λ (f : Found Element). or_else f (pair_of (drop (i + 1) os) es)) (now ∙ element_none (aid i) j e)
+    pub pair_next : element_of aid es ≡ None → pair_of (drop i os) es ≡ pair_of (drop (i + 1) os) es
+    pair_next f = pair_step ∙ rw f
 
-      pub pair_none : i ≡ offered → j ≡ n → pair_at j es ≡ pair_of os es
-      unfolding pair_of
-      pair_none e k = place_none j (omega arith) ∙ sym (so ∙ ap (λ (l : List Entry). pair_of l es) (rest_none empty_entry entries offered all i e))
+  pub pair_none : length os ≤ i → pair_of (drop i os) es ≡ None
+  unfolding pair_of
+  pair_none h = ap (λ (l : List Entry). pair_of l es) (next_none os i h)
 
 -- ---- how many are offered
 
 module _ (bst : Bst) where
-  abbrev first : ℕ
-  first = bst.mandatory
+  abbrev others : ℕ
+  others = pick bst.has_others bst.others 0
 
-  pub counts_all : 32 < first → Counts bst 32
-  counts_all h = record { few = omega arith; so = λ es n. all es (omega arith) n }
+  abbrev all : ℕ
+  all = bst.mandatory + others
+
+  offered_together : (es : List Entry) → offered_by bst es ≡ take all es
+  unfolding offered_by
+  offered_together es = ap (λ (l : List Entry). take bst.mandatory es ++ l) (rest bst.has_others) ∙ sym (take-add bst.mandatory others es)
     where
-      all : (es : List Entry) → length es ≤ bst.mandatory → length es ≡ 32 → take 32 es ≡ offered_by bst es
-      all es k n =
-          unfold offered_by in
-          take_all 32 es (omega arith) ∙ sym (append-nil es)
-          ∙ ap₂ ◌++◌ (sym (take_all bst.mandatory es k))
-          (by_test (λ (l : List Entry). [] ≡ l) bst.has_others
-          (λ p. sym (take-nil bst.others) ∙ ap (take bst.others) (sym (drop_of_length-le es {i = bst.mandatory} k)))
-          (λ p. refl))
+      rest : (h : Bool) → pick h (take bst.others (drop bst.mandatory es)) [] ≡ take (pick h bst.others 0) (drop bst.mandatory es)
+      rest true = refl
+      rest false = refl
 
-  module _ (h : first ≤ 32) where
-    pub counts_mandatory : not bst.has_others ≡ true → Counts bst first
-    counts_mandatory p =
-        record { few = h; so = λ es n. unfold offered_by in rw (not-true bst.has_others p) (sym (append-nil (take first es))) }
-
-    module _ (p : not bst.has_others ≡ false) where
-      with_others : (es : List Entry) → offered_by bst es ≡ take first es ++ take bst.others (drop first es)
-      unfolding offered_by
-      with_others es = rw (not-false bst.has_others p)
-
-      pub counts_rest : 32 - first < bst.others → Counts bst 32
-      counts_rest k =
-          record {
-            few = omega arith;
-            so = λ es n.
-                let m = length-drop first es in
-                take_all 32 es (omega arith) ∙ sym (take-append-drop first es)
-                ∙ ap (λ (l : List Entry). take first es ++ l) (sym (take_all bst.others (drop first es) (omega arith)))
-                ∙ sym (with_others es);
-          }
-
-      pub counts_both : bst.others ≤ 32 - first → Counts bst (first + bst.others)
-      counts_both k = record { few = omega arith; so = λ es n. take-add first bst.others es ∙ sym (with_others es) }
-
--- the element at the place that the search gives, or none
-module _ (bst : Bst) (entries : List Entry) (whole : length entries ≡ 32) (list : List Element) (n : ℕ) (fits : n ≤ length list) {k : ℕ} (is : Counts bst k) (i : ℕ)
-    (so : pair_at i (take n list) ≡ pair_of (take k entries) (take n list)) where
-  offered_is : pair_of (take k entries) (take n list) ≡ pair_of (offered_by bst entries) (take n list)
-  offered_is = ap (λ (l : List Entry). pair_of l (take n list)) (is.so entries whole)
-
-  pub pair_taken : i < n → found (get_or list i no_element) ≡ pair_of (offered_by bst entries) (take n list)
-  pair_taken h = sym (place_is list n fits i h) ∙ so ∙ offered_is
-
-  pub pair_missing : n ≤ i → nothing ≡ pair_of (offered_by bst entries) (take n list)
-  pair_missing h = sym (place_none list n fits i h) ∙ so ∙ offered_is
+  pub counted : {k : ℕ} → k ≤ 32 → (all < 32 → k ≡ all) → (32 ≤ all → k ≡ 32) → Counts bst k
+  counted {k} few below above = record { few = few; so = λ es n. so es n ∙ sym (offered_together es) }
+    where
+      so : (es : List Entry) → length es ≡ 32 → take k es ≡ take all es
+      so es n =
+          by_cases (ltb all 32) (λ t. ap (λ (i : ℕ). take i es) (below (ltb-true all 32 t)))
+          (λ t. let h = ltb-false all 32 t in let e = above h in take_all k es (omega arith) ∙ sym (take_all all es (omega arith)))
 
 -- ---- the profile
 
@@ -148,10 +103,10 @@ module _ (s : List ℕ) (own start n : ℕ) where
   profiles = own ∷ string_at s start n
 
   -- those of the list from one on
-  abbrev pub list_from : ℕ → Found ℕ
+  abbrev pub list_from : ℕ → Option ℕ
   list_from i = first_served (string_at s (start + 8 * i) (n - i))
 
-  pub own_served : own ≤ 1 → found own ≡ first_served profiles
+  pub own_served : own ≤ 1 → Some own ≡ first_served profiles
   unfolding first_served
   own_served h = sym (rw (le-leb own 1 h))
 
@@ -170,7 +125,7 @@ module _ (s : List ℕ) (own start n : ℕ) where
         let a : start + 8 * i + 8 ≡ start + 8 * (i + 1) = omega arith in
         so ∙ rw k (ap₂ (λ (q j : ℕ). first_served (q ∷ string_at s j (n - (i + 1)))) (sym is) a)
 
-    pub list_served : p ≤ 1 → found p ≡ first_served profiles
+    pub list_served : p ≤ 1 → Some p ≡ first_served profiles
     unfolding first_served
     list_served k = sym (list_step ∙ rw (le-leb p 1 k))
 
@@ -178,6 +133,6 @@ module _ (s : List ℕ) (own start n : ℕ) where
     unfolding first_served
     list_next k = list_step ∙ rw (lt-leb p 1 k)
 
-  pub list_none : (i : ℕ) → i ≡ n → first_served profiles ≡ list_from i → nothing ≡ first_served profiles
+  pub list_none : (i : ℕ) → n ≤ i → first_served profiles ≡ list_from i → None ≡ first_served profiles
   unfolding first_served string_at
   list_none i e so = let k : n - i ≡ 0 = omega arith in sym (so ∙ rw k)

@@ -11,8 +11,9 @@ use Rattle.apdu.specs.declared.records.Message.TheVariants as kind
 use Rattle.apdu.specs.Values.{bit_of, num, if, head_values, rows_values, entry_values, entries_values, rows_of, vst_values, values_of}
 use Rattle.apdu_writing.proofs.RoundTrip.{written_reads}
 use Rattle.initialisation.specs.declared.records.Configuration.{Configuration}
-use Rattle.initialisation.specs.Offer.{Found, nothing, found}
-use Rattle.initialisation.specs.Hearing.{Call, hearing_refusal, Taken, beacon_of, sent, phase_after, link_after, entry_of, mark_of, vst_of, vst_for, Reply, refused, silent, vst, output_for, Heard, heard_of}
+use Rattle.std.specs.Prelude.{Option, None, Some}
+use Rattle.initialisation.specs.declared.hearing.Taken.{Taken}
+use Rattle.initialisation.specs.Hearing.{Call, hearing_refusal, beacon_of, sent, phase_after, link_after, entry_of, mark_of, vst_of, vst_for, Reply, refused, silent, vst, output_for, Heard, heard_of}
 use Rattle.initialisation.specs.Theorems.{vst_says, VstSent, Hears}
 use Rattle.initialisation.proofs.VstLaws.{Sendable, no_rows, vst_passes, vst_short}
 use Rattle.initialisation.proofs.HearingLaws.{checked, sendable, taken_parts}
@@ -49,13 +50,13 @@ reads_back marks t k out can room =
 
 data Way (c : Call) : Type 0 where
   denied : (k : ℕ) → heard_of c ≡ record { reply = refused k; link = c.link; out = c.out } → Way c
-  quiet : sent c ≡ nothing → heard_of c ≡ record { reply = silent; link = link_after c; out = c.out } → Way c
-  started : (t : Taken) → sent c ≡ found t → hearing_refusal c ≡ 0
-      → heard_of c ≡ record { reply = vst (size (vst_for t c.marks c.configuration)); link = link_after c; out = output_for (found t) c.marks c.configuration c.out } → Way c
+  quiet : sent c ≡ None → heard_of c ≡ record { reply = silent; link = link_after c; out = c.out } → Way c
+  started : (t : Taken) → sent c ≡ Some t → hearing_refusal c ≡ 0
+      → heard_of c ≡ record { reply = vst (size (vst_for t c.marks c.configuration)); link = link_after c; out = output_for (Some t) c.marks c.configuration c.out } → Way c
 
-by_found : {A P : Type 0} (f : Found A) → (f ≡ nothing → P) → ((x : A) → f ≡ found x → P) → P
-by_found nothing g h = g refl
-by_found (found x) g h = h x refl
+by_found : {A P : Type 0} (f : Option A) → (f ≡ None → P) → ((x : A) → f ≡ Some x → P) → P
+by_found None g h = g refl
+by_found (Some x) g h = h x refl
 
 way : (c : Call) → Way c
 unfolding heard_of
@@ -84,7 +85,7 @@ hears_by c (quiet s e) =
       quiet = λ h.
           record {
             output = ap (λ (h : Heard). h.out) e;
-            phase = ap (λ (h : Heard). h.link.phase) e ∙ ap (λ (f : Found Taken). phase_after f c.link.phase (beacon_of c.bst) c.lid) s;
+            phase = ap (λ (h : Heard). h.link.phase) e ∙ ap (λ (f : Option Taken). phase_after f c.link.phase (beacon_of c.bst) c.lid) s;
           };
       denied = λ j h. impossible silent (refused j) r h (λ x. let z : ◌≡◌ {A = ℕ} 0 1 = cc in omega arith);
     }
@@ -111,7 +112,7 @@ hears_by c (started t s none e) =
           reads =
               rw (ap (λ (h : Heard). take n h.out) e ∙ take_at (encoded_octets vs) (drop (size vs) c.out) n l, ← values_said t c.marks c.configuration)
               (reads_back c.marks t c.configuration c.out can (checked c none).room);
-          fresh = ap (λ (h : Heard). h.link.phase) e ∙ ap (λ (f : Found Taken). phase_after f c.link.phase (beacon_of c.bst) c.lid) s;
+          fresh = ap (λ (h : Heard). h.link.phase) e ∙ ap (λ (f : Option Taken). phase_after f c.link.phase (beacon_of c.bst) c.lid) s;
         }
 
 -- every call is one of the three, by its reply

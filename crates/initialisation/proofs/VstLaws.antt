@@ -30,7 +30,8 @@ use Rattle.apdu_writing.proofs.Levels.{writes_none, writes_append, writes_fine}
 use Rattle.initialisation.specs.declared.records.Element.{Element}
 use Rattle.initialisation.specs.declared.records.Configuration.{Configuration}
 use Rattle.initialisation.specs.Elements.{element_sound}
-use Rattle.initialisation.specs.Hearing.{configuration_in_range, Taken, entry_of, mark_of, vst_of, vst_for}
+use Rattle.initialisation.specs.declared.hearing.Taken.{Taken}
+use Rattle.initialisation.specs.Hearing.{configuration_in_range, entry_of, mark_of, vst_of, vst_for}
 use Rattle.initialisation.specs.Searching.{octets_in, Sends}
 
 -- ---- values that are written for components, n bits in all

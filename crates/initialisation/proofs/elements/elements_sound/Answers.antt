@@ -1,10 +1,11 @@
--- Too many elements are not sound.
--- Assumes nothing.
-use Rattle.initialisation.proofs.ElementLaws.{too_many, few_enough}
+use Rattle.std.proofs.Common.{rules}
+use Rattle.initialisation.specs.Elements.{elements_sound}
 use Rattle.initialisation.proofs.elements.elements_sound.Goals as goal
 
-pub returns-then-own-gt-MOST_ELEMENTS : goal.returns-then-own-gt-MOST_ELEMENTS
-returns-then-own-gt-MOST_ELEMENTS c = too_many _ _ c.if-own-gt-MOST_ELEMENTS.true
+pub returns-then-own-le-MOST_ELEMENTS : goal.returns-then-own-le-MOST_ELEMENTS
+unfolding elements_sound
+returns-then-own-le-MOST_ELEMENTS c = search rules
 
-pub returns : goal.returns
-returns c = few_enough _ _ c.if-own-gt-MOST_ELEMENTS.false c.each_sound.ensures
+pub returns-else-own-le-MOST_ELEMENTS : goal.returns-else-own-le-MOST_ELEMENTS
+unfolding elements_sound
+returns-else-own-le-MOST_ELEMENTS c = search rules
