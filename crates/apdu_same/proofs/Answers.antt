@@ -3,9 +3,8 @@
 use Prim.Native.Nat.{ℕ}
 use mathlib.Core.Path.{◌≡◌, ap, sym, ◌∙◌}
 use mathlib.Core.List.{List, [], ◌++◌, append-nil}
-use mathlib.Core.Bool.{Bool, true, false, not}
+use mathlib.Core.Bool.{Bool, true, false}
 use lib.ListN.{length}
-use borrow.Author.Tests.{not-true, not-false}
 use Rattle.refusals.specs.Check.{first_of, refused, accepted, decided}
 use Rattle.apdu_format.specs.Reading.{Value}
 use Rattle.apdu.specs.declared.lists.Row.{Row}
@@ -20,30 +19,23 @@ use Rattle.apdu_same.specs.Walk.{Agree, Compares}
 
 module _ (s : List ℕ) (a : Message) (es : List Entry) (vs : List Row) (t : List ℕ) (b : Message) (fs : List Entry) (ws : List Row) where
   module _ {p : Bool} (e : p ≡ well_formed s a es vs) where
-    pub first_broken : not p ≡ true → refused 23 ≡ same_answer s a es vs t b fs ws
+    pub first_broken : p ≡ false → refused 23 ≡ same_answer s a es vs t b fs ws
     unfolding same_answer first_of decided
-    first_broken h = rw (← e, not-true p h)
+    first_broken h = rw (← e, h)
 
-    module _ {q : Bool} (f : q ≡ well_formed t b fs ws) (h : not p ≡ false) where
-      pub second_broken : not q ≡ true → refused 23 ≡ same_answer s a es vs t b fs ws
+    module _ {q : Bool} (f : q ≡ well_formed t b fs ws) (h : p ≡ true) where
+      pub second_broken : q ≡ false → refused 23 ≡ same_answer s a es vs t b fs ws
       unfolding same_answer first_of decided
-      second_broken k = rw (← e, not-false p h, ← f, not-true q k)
+      second_broken k = rw (← e, h, ← f, k)
 
-      compared : {r : Bool} → not q ≡ false → Compares (sound (length s) a es vs) (sound (length t) b fs ws) (values_of s a es vs) (values_of t b fs ws) r
+      pub compared : {r : Bool} → q ≡ true → Compares (sound (length s) a es vs) (sound (length t) b fs ws) (values_of s a es vs) (values_of t b fs ws) r
           → accepted r ≡ same_answer s a es vs t b fs ws
       unfolding same_answer first_of decided
       compared {r} k c =
-          rw (← e, not-false p h, ← f, not-false q k)
-          (ap accepted (sym (alone (values_of s a es vs) (values_of t b fs ws) (c.so (formed_sound s a es vs (sym e ∙ not-false p h)) (formed_sound t b fs ws (sym f ∙ not-false q k))))))
+          rw (← e, h, ← f, k)
+          (ap accepted (sym (alone (values_of s a es vs) (values_of t b fs ws) (c.so (formed_sound s a es vs (sym e ∙ h)) (formed_sound t b fs ws (sym f ∙ k))))))
         where
           alone : (us vs : List Value) → Agree us vs r → same_message us vs ≡ r
           alone us vs x =
               ap (λ (l : List Value). same_message l vs) (sym (append-nil us)) ∙ ap (same_message (us ++ [])) (sym (append-nil vs)) ∙ x.so [] []
               ∙ (unfold same_message in and_unit r)
-
-      module _ {r : Bool} (k : not q ≡ false) (c : Compares (sound (length s) a es vs) (sound (length t) b fs ws) (values_of s a es vs) (values_of t b fs ws) r) where
-        pub found_same : r ≡ true → accepted true ≡ same_answer s a es vs t b fs ws
-        found_same z = ap accepted (sym z) ∙ compared k c
-
-        pub found_different : r ≡ false → accepted false ≡ same_answer s a es vs t b fs ws
-        found_different z = ap accepted (sym z) ∙ compared k c

@@ -1,15 +1,16 @@
 -- Application entries of two records: the loop that compares them, and what it says of their values.
 -- Assumes nothing.
-use Prim.Native.Nat.{ℕ, zero, suc, ◌+◌, ◌<◌}
+use Prim.Native.Nat.{ℕ, zero, suc, ◌+◌, ◌≤◌, ◌<◌}
 use mathlib.Core.Path.{◌≡◌, refl, ap, sym, ◌∙◌}
 use mathlib.Core.List.{List, [], ◌∷◌, ◌++◌}
-use mathlib.Core.Bool.{Bool, true, false, ◌&&◌, not}
+use mathlib.Core.Bool.{Bool, true, false, ◌&&◌}
 use native.Mathlib.Omega.{arith}
 use native.Mathlib.Numerals.{add-one}
 use lib.Dec.{eqb}
 use lib.ListN.{length, take, drop, get_or}
 use lib.Seq.{drop-cons, drop-drop, take-suc}
-use borrow.Author.Tests.{eqb-true, not-true, not-false}
+use borrow.Author.Tests.{eqb-true}
+use Rattle.std.proofs.Common.{take_all}
 use Rattle.refusals.specs.Check.{pick}
 use Rattle.apdu_format.proofs.Tests.{both}
 use Rattle.apdu.specs.declared.lists.Row.{Row}
@@ -35,9 +36,12 @@ rows_more es i {e} f o h g =
     rw (o, g) (sym (rows_of_snoc (take i es) e))
     ∙ ap (λ (x : Entry). rows_of (take i es ++ (x ∷ []))) f ∙ ap rows_of (sym (take-suc es i empty_entry h)) ∙ ap (λ (k : ℕ). rows_of (take k es)) (sym (add-one i))
 
-pub rows_whole : (es : List Entry) (n i : ℕ) {used : ℕ} → length es ≡ 32 → i ≡ lesser 32 n → used ≡ rows_of (take i es) → used ≡ rows_of (take n es)
-rows_whole es n i e f g =
-    g ∙ ap (λ (k : ℕ). rows_of (take k es)) (f ∙ ap (λ (k : ℕ). lesser k n) (sym e)) ∙ ap rows_of (lesser_take n es)
+pub rows_whole : (es : List Entry) (i : ℕ) {used : ℕ} → length es ≤ i → used ≡ rows_of (take i es) → used ≡ rows_of es
+rows_whole es i h g = g ∙ ap rows_of (take_all i es h)
+
+-- of an array, as many as there are
+pub rows_clamped : (es : List Entry) (n : ℕ) {k : ℕ} → length es ≡ 32 → k ≡ lesser 32 n → rows_of (take k es) ≡ rows_of (take n es)
+rows_clamped es n e f = ap (λ (k : ℕ). rows_of (take k es)) (f ∙ ap (λ (k : ℕ). lesser k n) (sym e)) ∙ ap rows_of (lesser_take n es)
 
 -- ---- one entry
 
@@ -92,19 +96,19 @@ module _ (s : List ℕ) (es : List Entry) (vs : List Row) (t : List ℕ) (fs : L
         rw (drop-cons es i empty_entry h, drop-cons fs i empty_entry k, ← p, ← q, add-one i, ← drop-drop (entry_rows e) used vs, ← drop-drop (entry_rows f) gone ws)
 
     module _ {r : Bool} (g : r ≡ same_entry s e t f) where
-      pub entry_other : not r ≡ true → EntriesLeft i used gone ≡ false
-      entry_other j = entry_left ∙ rw (← g, not-true r j)
+      pub entry_other : r ≡ false → EntriesLeft i used gone ≡ false
+      entry_other j = entry_left ∙ rw (← g, j)
 
-      module _ {l : Bool} {own theirs : ℕ} (j : not r ≡ false) (u : own ≡ entry_rows e) (v : theirs ≡ entry_rows f) (m : l ≡ lists_rows e) where
+      module _ {l : Bool} {own theirs : ℕ} (j : r ≡ true) (u : own ≡ entry_rows e) (v : theirs ≡ entry_rows f) (m : l ≡ lists_rows e) where
         pub entry_passed : l ≡ false → EntriesLeft i used gone ≡ EntriesLeft (i + 1) (used + own) (gone + theirs)
-        entry_passed z = entry_left ∙ rw (← g, not-false r j, ← m, z, u, v)
+        entry_passed z = entry_left ∙ rw (← g, j, ← m, z, u, v)
 
         module _ {x : Bool} (y : l ≡ true) (z : x ≡ rows own theirs) where
-          pub rows_same : not x ≡ false → EntriesLeft i used gone ≡ EntriesLeft (i + 1) (used + own) (gone + theirs)
-          rows_same o = entry_left ∙ rw (← g, not-false r j, ← m, y, ← u, ← v, ← z, not-false x o)
+          pub rows_same : x ≡ true → EntriesLeft i used gone ≡ EntriesLeft (i + 1) (used + own) (gone + theirs)
+          rows_same o = entry_left ∙ rw (← g, j, ← m, y, ← u, ← v, ← z, o)
 
-          pub rows_other : not x ≡ true → EntriesLeft i used gone ≡ false
-          rows_other o = entry_left ∙ rw (← g, not-false r j, ← m, y, ← u, ← v, ← z, not-true x o)
+          pub rows_other : x ≡ false → EntriesLeft i used gone ≡ false
+          rows_other o = entry_left ∙ rw (← g, j, ← m, y, ← u, ← v, ← z, o)
 
 -- ---- the values
 

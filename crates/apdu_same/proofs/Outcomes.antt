@@ -3,7 +3,7 @@
 use Prim.Native.Nat.{ℕ}
 use mathlib.Core.Path.{◌≡◌, refl}
 use mathlib.Core.List.{List}
-use mathlib.Core.Bool.{Bool, true, false, ◌&&◌, ◌||◌, not}
+use mathlib.Core.Bool.{Bool, beq, true, false, ◌&&◌, ◌||◌, not}
 use native.Mathlib.Omega.{arith}
 use lib.Dec.{eqb}
 use borrow.Author.Tests.{eq-eqb, ne_eqb, not-true, not-false}
@@ -14,20 +14,12 @@ use Rattle.apdu_same.specs.Walk.{same_if, same_head}
 
 -- ---- fields
 
-module _ (p q : Bool) where
-  pub flag_set : p ≡ true → q ≡ eqb (bit_of p) (bit_of q)
-  flag_set e = rw e (bit_one q)
-    where
-      bit_one : (q : Bool) → q ≡ eqb 1 (bit_of q)
-      bit_one true = refl
-      bit_one false = refl
-
-  pub flag_clear : p ≡ false → not q ≡ eqb (bit_of p) (bit_of q)
-  flag_clear e = rw e (bit_none q)
-    where
-      bit_none : (q : Bool) → not q ≡ eqb 0 (bit_of q)
-      bit_none true = refl
-      bit_none false = refl
+-- bits that are the same stand as the same number
+pub same_bits : (p q : Bool) → beq p q ≡ eqb (bit_of p) (bit_of q)
+same_bits true true = refl
+same_bits true false = refl
+same_bits false true = refl
+same_bits false false = refl
 
 pub if_there : (b p : Bool) {x r : Bool} → (b && p) ≡ true → r ≡ x → r ≡ same_if b p x
 unfolding same_if

@@ -3,13 +3,13 @@
 use Prim.Native.Nat.{ℕ, zero, suc, ◌+◌, ◌<◌}
 use mathlib.Core.Path.{◌≡◌, refl, ap, sym, ◌∙◌}
 use mathlib.Core.List.{List, [], ◌∷◌}
-use mathlib.Core.Bool.{Bool, true, false, ◌&&◌, not}
+use mathlib.Core.Bool.{Bool, true, false, ◌&&◌}
 use native.Mathlib.Omega.{arith}
 use native.Mathlib.Numerals.{add-one}
 use lib.Dec.{eqb}
 use lib.ListN.{length, drop, get_or}
 use lib.Seq.{drop-cons}
-use borrow.Author.Tests.{eqb-true, not-true, not-false}
+use borrow.Author.Tests.{eqb-true}
 use Rattle.refusals.specs.Check.{pick}
 use Rattle.refusals.proofs.Tests.{and_right}
 use Rattle.apdu_format.proofs.Tests.{never, both}
@@ -44,11 +44,11 @@ module _ (s : List ℕ) (vs : List Row) (t : List ℕ) (ws : List Row) where
     row_left = rw (drop-cons vs i empty_row h, drop-cons ws i empty_row k, e, f, add-one i)
 
     module _ {r : Bool} (g : r ≡ same_row s v t w) where
-      pub row_same : not r ≡ false → RowsLeft i ≡ RowsLeft (i + 1)
-      row_same j = row_left ∙ rw (← g, not-false r j)
+      pub row_same : r ≡ true → RowsLeft i ≡ RowsLeft (i + 1)
+      row_same j = row_left ∙ rw (← g, j)
 
-      pub row_other : not r ≡ true → RowsLeft i ≡ false
-      row_other j = row_left ∙ rw (← g, not-true r j)
+      pub row_other : r ≡ false → RowsLeft i ≡ false
+      row_other j = row_left ∙ rw (← g, j)
 
   pub rows_none : (i : ℕ) → i ≡ length vs → i ≡ length ws → RowsLeft i ≡ true
   unfolding RowsLeft

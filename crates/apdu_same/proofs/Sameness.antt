@@ -10,9 +10,10 @@ use Rattle.apdu_format.specs.RoundTrip.{unplaced, Same}
 use Rattle.apdu_format.proofs.Tests.{never, both}
 use Rattle.apdu.specs.Values.{values_of}
 use Rattle.apdu.specs.Sound.{well_formed}
-use Rattle.apdu_same.specs.declared.comparing.Compared.{Compared}
-use Rattle.apdu_same.specs.declared.comparing.Compared.TheVariants as compared
-use Rattle.apdu_same.specs.Comparison.{same_value, same_message, same_answer, answer_of, SameExactly, Means, SameRecords}
+use Rattle.std.specs.Prelude.{Result, Ok, Err}
+use Rattle.refusals.specs.declared.Refusal.{Refusal}
+use Rattle.refusals.specs.Refusal.{answer_of}
+use Rattle.apdu_same.specs.Comparison.{same_value, same_message, same_answer, SameExactly, Means, SameRecords}
 use Rattle.apdu_same.proofs.Leaves.{same_eq, eq_same}
 
 value_same : (u v : Value) → same_value u v ≡ true → unplaced u ≡ unplaced v
@@ -55,17 +56,17 @@ same_exactly us vs = (message_same us vs, same_message_law us vs)
 -- ---- two records
 
 -- an answer by whether each record keeps the condition of 23, and what comparing their values says
-means : (r : Compared) (p q : Bool) (us vs : List Value) → answer_of r ≡ decided (first_of (check 23 (not p || not q) ∷ [])) (same_message us vs) → Means r (p && q) us vs
-unfolding answer_of decided first_of Means
-means compared.RecordOutOfRange true true us vs e = cc
-means compared.RecordOutOfRange true false us vs e = refl
-means compared.RecordOutOfRange false q us vs e = refl
-means compared.Same true true us vs e = (refl, message_same us vs (cc))
-means compared.Same true false us vs e = never (cc)
-means compared.Same false q us vs e = never (cc)
-means compared.Different true true us vs e = (refl, λ h. never (cc (same_message_law us vs h)))
-means compared.Different true false us vs e = never (cc)
-means compared.Different false q us vs e = never (cc)
+means : (r : Result Bool Refusal) (p q : Bool) (us vs : List Value) → answer_of r ≡ decided (first_of (check 23 (not p || not q) ∷ [])) (same_message us vs) → Means r (p && q) us vs
+unfolding decided first_of Means
+means (Err r) true true us vs e = cc
+means (Err r) true false us vs e = refl
+means (Err r) false q us vs e = refl
+means (Ok true) true true us vs e = (refl, message_same us vs (cc))
+means (Ok true) true false us vs e = never (cc)
+means (Ok true) false q us vs e = never (cc)
+means (Ok false) true true us vs e = (refl, λ h. never (cc (same_message_law us vs h)))
+means (Ok false) true false us vs e = never (cc)
+means (Ok false) false q us vs e = never (cc)
 
 pub same_records : SameRecords
 unfolding SameRecords same_answer

@@ -3,7 +3,7 @@ ghost use Rattle.std.specs.Prelude.{◌≡◌, ◌<◌, take, drop};
 ghost use Rattle.apdu.specs.Values.{rows_of};
 ghost use Rattle.apdu_same.specs.Walk.{same_if, same_entry, lists_rows, same_entries, same_applications};
 
-use crate::fields::{flag, number_if};
+use crate::fields::number_if;
 use crate::rows::{head, rows};
 use apdu::{Entry, Row, clamped, entry_rows};
 
@@ -11,10 +11,9 @@ use apdu::{Entry, Row, clamped, entry_rows};
 fn entry(s: &[u8], e: Entry, t: &[u8], f: Entry) -> bool
     ensures { result ≡ same_entry s.now e t.now f }
 {
-    let lead = flag(e.has_eid, f.has_eid)
-        & (flag(e.has_parameter, f.has_parameter) & (e.aid == f.aid));
+    let lead = (e.has_eid == f.has_eid) & ((e.has_parameter == f.has_parameter) & (e.aid == f.aid));
     let eid = number_if(lead, e.has_eid, e.eid as u64, f.eid as u64);
-    if eid & e.has_parameter {
+    if eid && e.has_parameter {
         return head(
             s,
             e.kind as u64,
@@ -33,20 +32,16 @@ fn entry(s: &[u8], e: Entry, t: &[u8], f: Entry) -> bool
 fn lists_rows(e: Entry) -> bool
     ensures { result ≡ lists_rows e }
 {
-    e.has_parameter & (e.kind as u64 == apdu::ATTRIBUTE_LIST)
+    e.has_parameter && e.kind as u64 == apdu::ATTRIBUTE_LIST
 }
 
 // How many rows the first n entries have.
 pub(crate) fn rows_of(list: [Entry; 32], n: usize) -> usize
     ensures { (result ≡ rows_of (take n list)) × (result < 65536) }
 {
-    let k = clamped(0, n);
-    let mut used: usize = 0;
-    let mut i: usize = 0;
-    while i < k {
-        let e = list[i];
-        used += entry_rows(e);
-        i += 1;
+    let mut used = 0;
+    for entry in &list[..clamped(0, n)] {
+        used += entry_rows(*entry);
     }
     used
 }
@@ -70,8 +65,7 @@ fn applications(
     let k = clamped(from, n);
     let mut used = first;
     let mut gone = at;
-    let mut i: usize = 0;
-    while i < k {
+    for i in 0..k {
         let e = list[from + i];
         let f = other[from + i];
         if !entry(s, e, t, f) {
@@ -79,14 +73,11 @@ fn applications(
         }
         let own = entry_rows(e);
         let theirs = entry_rows(f);
-        if lists_rows(e) {
-            if !rows(s, table, used, own, t, others, gone, theirs) {
-                return false;
-            }
+        if lists_rows(e) && !rows(s, table, used, own, t, others, gone, theirs) {
+            return false;
         }
         used += own;
         gone += theirs;
-        i += 1;
     }
     true
 }
@@ -110,13 +101,11 @@ pub(crate) fn applications_if(
     requires { (first < 65536) × (at < 65536) }
     ensures { result ≡ same_if before p (same_applications s.now n (take n (drop from list)) (drop first table) t.now m (take n (drop from other)) (drop at others)) }
 {
-    if before & p {
-        if n != m {
-            return false;
-        }
-        return applications(
-            s, list, table, first, t, other, others, at, from, n as usize,
-        );
+    if before && p {
+        return n == m
+            && applications(
+                s, list, table, first, t, other, others, at, from, n as usize,
+            );
     }
     before
 }

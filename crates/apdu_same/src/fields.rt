@@ -1,23 +1,12 @@
 // Fields of two records. A comparison stops where what went before differs.
 ghost use Rattle.std.specs.Prelude.{◌≡◌, eqb};
-ghost use Rattle.apdu.specs.Values.{bit_of};
 ghost use Rattle.apdu_same.specs.Walk.{same_if, same_part};
-
-// Two bits: presences or modes.
-pub(crate) fn flag(p: bool, q: bool) -> bool
-    ensures { result ≡ eqb (bit_of p) (bit_of q) }
-{
-    if p {
-        return q;
-    }
-    !q
-}
 
 // Two numbers, if they are there.
 pub(crate) fn number_if(before: bool, p: bool, n: u64, m: u64) -> bool
     ensures { result ≡ same_if before p (eqb n m) }
 {
-    if before & p {
+    if before && p {
         return n == m;
     }
     before
@@ -36,11 +25,8 @@ pub(crate) fn part_if(
 ) -> bool
     ensures { result ≡ same_if before p (same_part s.now start n t.now at m) }
 {
-    if before & p {
-        if n != m {
-            return false;
-        }
-        return bits::same_string(s, start, t, at, n as usize);
+    if before && p {
+        return n == m && bits::same_string(s, start, t, at, n as usize);
     }
     before
 }

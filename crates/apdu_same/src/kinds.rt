@@ -1,10 +1,11 @@
-// The messages behind their choice, one function for each kind of record.
+// The messages behind their choice, one function for each kind of record. The tests of a leading part are joined by `&`: one value, which the proofs compare
+// with the part's fields at once.
 ghost use Rattle.std.specs.Prelude.{true, length};
 ghost use Rattle.apdu.specs.Values.{response_values, request_values, action_response_values, set_request_values, get_request_values, get_response_values};
 ghost use Rattle.apdu.specs.Sound.{request_sound, action_response_sound, set_request_sound, get_request_sound, get_response_sound};
 ghost use Rattle.apdu_same.specs.Walk.{Compares};
 
-use crate::fields::{flag, number_if, part_if};
+use crate::fields::{number_if, part_if};
 use crate::rows::{attributes_if, boxed_if};
 use apdu::{ActionResponse, GetRequest, GetResponse, Request, Response, Row, SetRequest};
 
@@ -12,7 +13,7 @@ use apdu::{ActionResponse, GetRequest, GetResponse, Request, Response, Row, SetR
 pub(crate) fn response(a: Response, b: Response) -> bool
     ensures { Compares true true (response_values a) (response_values b) result }
 {
-    let lead = flag(a.has_iid, b.has_iid) & (flag(a.has_ret, b.has_ret) & (a.fill == b.fill));
+    let lead = (a.has_iid == b.has_iid) & ((a.has_ret == b.has_ret) & (a.fill == b.fill));
     if !lead {
         return false;
     }
@@ -32,9 +33,8 @@ pub(crate) fn request(
 ) -> bool
     ensures { Compares (request_sound (length s.now) a table) (request_sound (length t.now) b other) (request_values s.now a table) (request_values t.now b other) result }
 {
-    let lead = flag(a.has_credentials, b.has_credentials)
-        & (flag(a.has_parameter, b.has_parameter)
-            & (flag(a.has_iid, b.has_iid) & flag(a.mode, b.mode)));
+    let lead = (a.has_credentials == b.has_credentials)
+        & ((a.has_parameter == b.has_parameter) & ((a.has_iid == b.has_iid) & (a.mode == b.mode)));
     if !lead {
         return false;
     }
@@ -79,9 +79,8 @@ pub(crate) fn action_response(
 ) -> bool
     ensures { Compares (action_response_sound (length s.now) a table) (action_response_sound (length t.now) b other) (action_response_values s.now a table) (action_response_values t.now b other) result }
 {
-    let lead = flag(a.has_iid, b.has_iid)
-        & (flag(a.has_parameter, b.has_parameter)
-            & (flag(a.has_ret, b.has_ret) & (a.fill == b.fill)));
+    let lead = (a.has_iid == b.has_iid)
+        & ((a.has_parameter == b.has_parameter) & ((a.has_ret == b.has_ret) & (a.fill == b.fill)));
     if !lead {
         return false;
     }
@@ -116,8 +115,8 @@ pub(crate) fn set_request(
 ) -> bool
     ensures { Compares (set_request_sound (length s.now) a table) (set_request_sound (length t.now) b other) (set_request_values s.now a table) (set_request_values t.now b other) result }
 {
-    let lead = flag(a.has_credentials, b.has_credentials)
-        & (flag(a.has_iid, b.has_iid) & ((a.fill == b.fill) & flag(a.mode, b.mode)));
+    let lead = (a.has_credentials == b.has_credentials)
+        & ((a.has_iid == b.has_iid) & ((a.fill == b.fill) & (a.mode == b.mode)));
     if !lead {
         return false;
     }
@@ -150,8 +149,8 @@ pub(crate) fn set_request(
 pub(crate) fn get_request(s: &[u8], a: GetRequest, t: &[u8], b: GetRequest) -> bool
     ensures { Compares (get_request_sound (length s.now) a) (get_request_sound (length t.now) b) (get_request_values s.now a) (get_request_values t.now b) result }
 {
-    let lead = flag(a.has_credentials, b.has_credentials)
-        & (flag(a.has_iid, b.has_iid) & (flag(a.has_ids, b.has_ids) & (a.fill == b.fill)));
+    let lead = (a.has_credentials == b.has_credentials)
+        & ((a.has_iid == b.has_iid) & ((a.has_ids == b.has_ids) & (a.fill == b.fill)));
     if !lead {
         return false;
     }
@@ -180,9 +179,9 @@ pub(crate) fn get_response(
 ) -> bool
     ensures { Compares (get_response_sound (length s.now) a table) (get_response_sound (length t.now) b other) (get_response_values s.now a table) (get_response_values t.now b other) result }
 {
-    let lead = flag(a.has_iid, b.has_iid)
-        & (flag(a.has_attributes, b.has_attributes)
-            & (flag(a.has_ret, b.has_ret) & (a.fill == b.fill)));
+    let lead = (a.has_iid == b.has_iid)
+        & ((a.has_attributes == b.has_attributes)
+            & ((a.has_ret == b.has_ret) & (a.fill == b.fill)));
     if !lead {
         return false;
     }

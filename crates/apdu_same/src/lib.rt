@@ -10,4 +10,4 @@ mod link;
 mod message;
 mod rows;
 
-pub use comparing::{Compared, same};
+pub use comparing::same;

@@ -5,7 +5,7 @@ ghost use Rattle.apdu.specs.Sound.{bst_sound, vst_sound};
 ghost use Rattle.apdu_same.specs.Walk.{Compares};
 
 use crate::entries::{applications_if, rows_of};
-use crate::fields::{flag, number_if, part_if};
+use crate::fields::{number_if, part_if};
 use apdu::{Bst, Entry, Row, Vst};
 
 pub(crate) fn bst(
@@ -20,7 +20,7 @@ pub(crate) fn bst(
 ) -> bool
     ensures { Compares (bst_sound (length s.now) a list table) (bst_sound (length t.now) b other others) (bst_values s.now a list table) (bst_values t.now b other others) result }
 {
-    let lead = flag(a.has_others, b.has_others)
+    let lead = (a.has_others == b.has_others)
         & ((a.manufacturer == b.manufacturer) & (a.individual == b.individual));
     if !lead {
         return false;
@@ -98,7 +98,7 @@ pub(crate) fn vst(
         0,
         0,
     );
-    let class = applications & (flag(a.has_status, b.has_status) & (a.class == b.class));
+    let class = applications & ((a.has_status == b.has_status) & (a.class == b.class));
     let maker = class & (a.maker == b.maker);
     number_if(maker, a.has_status, a.status, b.status)
 }

@@ -21,66 +21,27 @@ pub(crate) fn agree(
 ) -> bool
     ensures { Compares (sound (length s.now) a list table) (sound (length t.now) b other others) (values_of s.now a list table) (values_of t.now b other others) result }
 {
-    match a {
-        Message::ActionRequest(x) => {
-            let Message::ActionRequest(y) = b else {
-                return false;
-            };
+    match (a, b) {
+        (Message::ActionRequest(x), Message::ActionRequest(y)) => {
             request(s, x, table, t, y, others)
         }
-        Message::ActionResponse(x) => {
-            let Message::ActionResponse(y) = b else {
-                return false;
-            };
+        (Message::ActionResponse(x), Message::ActionResponse(y)) => {
             action_response(s, x, table, t, y, others)
         }
-        Message::EventRequest(x) => {
-            let Message::EventRequest(y) = b else {
-                return false;
-            };
+        (Message::EventRequest(x), Message::EventRequest(y)) => {
             request(s, x, table, t, y, others)
         }
-        Message::EventResponse(x) => {
-            let Message::EventResponse(y) = b else {
-                return false;
-            };
-            response(x, y)
-        }
-        Message::SetRequest(x) => {
-            let Message::SetRequest(y) = b else {
-                return false;
-            };
+        (Message::EventResponse(x), Message::EventResponse(y)) => response(x, y),
+        (Message::SetRequest(x), Message::SetRequest(y)) => {
             set_request(s, x, table, t, y, others)
         }
-        Message::SetResponse(x) => {
-            let Message::SetResponse(y) = b else {
-                return false;
-            };
-            response(x, y)
-        }
-        Message::GetRequest(x) => {
-            let Message::GetRequest(y) = b else {
-                return false;
-            };
-            get_request(s, x, t, y)
-        }
-        Message::GetResponse(x) => {
-            let Message::GetResponse(y) = b else {
-                return false;
-            };
+        (Message::SetResponse(x), Message::SetResponse(y)) => response(x, y),
+        (Message::GetRequest(x), Message::GetRequest(y)) => get_request(s, x, t, y),
+        (Message::GetResponse(x), Message::GetResponse(y)) => {
             get_response(s, x, table, t, y, others)
         }
-        Message::Bst(x) => {
-            let Message::Bst(y) = b else {
-                return false;
-            };
-            bst(s, x, list, table, t, y, other, others)
-        }
-        Message::Vst(x) => {
-            let Message::Vst(y) = b else {
-                return false;
-            };
-            vst(s, x, list, table, t, y, other, others)
-        }
+        (Message::Bst(x), Message::Bst(y)) => bst(s, x, list, table, t, y, other, others),
+        (Message::Vst(x), Message::Vst(y)) => vst(s, x, list, table, t, y, other, others),
+        _ => false,
     }
 }

@@ -17,35 +17,32 @@ pub(crate) fn head(
 ) -> bool
     ensures { result ≡ same_head s.now k n start t.now l m at }
 {
-    if k != l {
+    if k != l || n != m {
         return false;
     }
-    if n != m {
-        return false;
+    match k {
+        apdu::OCTET_STRING | apdu::ATTRIBUTE_ID_LIST => {
+            bits::same_string(s, start, t, at, n as usize)
+        }
+        _ => true,
     }
-    if (k == apdu::OCTET_STRING) | (k == apdu::ATTRIBUTE_ID_LIST) {
-        return bits::same_string(s, start, t, at, n as usize);
-    }
-    true
 }
 
 // Two rows.
 fn row(s: &[u8], v: Row, t: &[u8], w: Row) -> bool
     ensures { result ≡ same_row s.now v t.now w }
 {
-    if v.id != w.id {
-        return false;
-    }
-    head(
-        s,
-        v.kind as u64,
-        v.n as u64,
-        v.start as usize,
-        t,
-        w.kind as u64,
-        w.n as u64,
-        w.start as usize,
-    )
+    v.id == w.id
+        && head(
+            s,
+            v.kind as u64,
+            v.n as u64,
+            v.start as usize,
+            t,
+            w.kind as u64,
+            w.n as u64,
+            w.start as usize,
+        )
 }
 
 // The `count` rows of one table from `first` on, and the `size` rows of the other from `from` on.
@@ -65,14 +62,10 @@ pub(crate) fn rows(
     if n != clamped(from, size) {
         return false;
     }
-    let mut i: usize = 0;
-    while i < n {
-        let v = table[first + i];
-        let w = other[from + i];
-        if !row(s, v, t, w) {
+    for i in 0..n {
+        if !row(s, table[first + i], t, other[from + i]) {
             return false;
         }
-        i += 1;
     }
     true
 }
@@ -96,14 +89,9 @@ pub(crate) fn boxed_if(
 ) -> bool
     ensures { result ≡ same_if before p (same_box s.now k n start (take count table) t.now l m at (take size other)) }
 {
-    if before & p {
-        if !head(s, k, n, start, t, l, m, at) {
-            return false;
-        }
-        if k == apdu::ATTRIBUTE_LIST {
-            return rows(s, table, 0, count, t, other, 0, size);
-        }
-        return true;
+    if before && p {
+        return head(s, k, n, start, t, l, m, at)
+            && (k != apdu::ATTRIBUTE_LIST || rows(s, table, 0, count, t, other, 0, size));
     }
     before
 }
@@ -123,11 +111,8 @@ pub(crate) fn attributes_if(
 ) -> bool
     ensures { result ≡ same_if before p (same_list s.now n (take count table) t.now m (take size other)) }
 {
-    if before & p {
-        if n != m {
-            return false;
-        }
-        return rows(s, table, 0, count, t, other, 0, size);
+    if before && p {
+        return n == m && rows(s, table, 0, count, t, other, 0, size);
     }
     before
 }

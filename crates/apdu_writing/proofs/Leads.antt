@@ -1,11 +1,12 @@
 -- The choice and the leading part of each kind, which the code writes together, and the components that they bring.
 -- Assumes nothing.
-use Prim.Native.Nat.{ℕ, ◌+◌, ◌*◌, ◌≤◌, ◌<◌}
+use Prim.Native.Nat.{ℕ, ◌+◌, ◌*◌, ◌%◌, ◌≤◌, ◌<◌}
 use mathlib.Core.Path.{◌≡◌, refl, ap, sym, ◌∙◌}
 use mathlib.Core.List.{List, [], ◌∷◌, ◌++◌, append-nil}
 use mathlib.Core.Bool.{Bool, true, false, ◌&&◌}
 use native.Mathlib.Omega.{arith}
 use lib.Dec.{ltb, eqb}
+use Rattle.std.specs.Int.{from_bool}
 use borrow.Author.Tests.{ltb-true, lt-ltb, lt-leb}
 use Rattle.refusals.specs.Check.{first_of}
 use Rattle.bits.specs.Bits.{digits, write_field}
@@ -17,7 +18,7 @@ use Rattle.apdu_format.specs.Writing.{bits_of, fits, is_value, field_bits, field
 use Rattle.apdu.specs.declared.records.Response.{Response}
 use Rattle.apdu.specs.Values.{bit_of, num, num_if, response_values}
 use Rattle.apdu_writing.specs.declared.quill.Quill.{Quill}
-use Rattle.apdu_writing.specs.Quill.{Put, Moves, Puts, Small, As}
+use Rattle.apdu_writing.specs.Quill.{Put, Moves, Puts, As}
 use Rattle.apdu_writing.proofs.Leaves.{packed, pack, leaf_two}
 use Rattle.apdu_writing.proofs.Chains.{nothing, then, and_then}
 use Rattle.apdu.proofs.Laws.{and_unit}
@@ -47,6 +48,11 @@ pub is_set_law : (p : Bool) → eqb (bit_of p) 1 ≡ p
 is_set_law true = refl
 is_set_law false = refl
 
+-- a bit as the library converts it
+pub bit_is : (p : Bool) {x : ℕ} → x ≡ from_bool p → x ≡ bit_of p
+bit_is true e = e
+bit_is false e = e
+
 pub bit_fits : (p : Bool) → ltb (bit_of p) 2 ≡ true
 bit_fits true = refl
 bit_fits false = refl
@@ -72,7 +78,7 @@ bits_fill_mode a b d n = rw (bit_fits a, bit_fits b, bit_fits d) (sym (and_unit 
 
 -- ---- event or set response
 
-module _ (m : Response) (k : ℕ) {x y z : ℕ} {c r : Quill} {o o' : List ℕ} (small : k < 10) (p : x ≡ bit_of m.has_iid) (q : y ≡ bit_of m.has_ret) (f : Small m.fill 4 z)
+module _ (m : Response) (k : ℕ) {x y z : ℕ} {c r : Quill} {o o' : List ℕ} (small : k < 10) (p : x ≡ bit_of m.has_iid) (q : y ≡ bit_of m.has_ret) (f : z ≡ m.fill % 4)
     (put : Put 1 (ltb m.fill 4) c r (write_field o (8 * c.at) 8 (16 * k + 8 * x + 4 * y + z)) o o') where
   abbrev fs : List ℕ
   fs = bit_of m.has_iid ∷ bit_of m.has_ret ∷ m.fill ∷ []
@@ -88,7 +94,7 @@ module _ (m : Response) (k : ℕ) {x y z : ℕ} {c r : Quill} {o o' : List ℕ} 
       fit = unfold fields_fit in rw (bit_fits m.has_iid, bit_fits m.has_ret) (sym (and_unit (ltb m.fill 4)))
 
       value : ltb m.fill 4 ≡ true → 16 * k + 8 * x + 4 * y + z ≡ packed (4 ∷ 1 ∷ 1 ∷ 2 ∷ []) (k ∷ fs)
-      value g = let h = f.is (ltb-true m.fill 4 g) in unfold packed sum in omega arith
+      value g = let h = ltb-true m.fill 4 g in unfold packed sum in omega arith
 
       brought : present fs (layout_of k).body ≡ (integer ∷ []) ++ (when m.has_iid (integer ∷ []) ++ (when m.has_ret (integer ∷ []) ++ []))
       brought = rw e (unfold present layout_of in rw (is_set_law m.has_iid, is_set_law m.has_ret))

@@ -87,11 +87,6 @@ pub record Known (d k : ℕ) (r : Quill) : Type 0 where
 pub record Few (n : ℕ) (r : Quill) : Type 0 where
   pub so : r.ok ≡ true → n ≤ 16
 
--- a number below a bound, if n is such
-pub record Small (n bound r : ℕ) : Type 0 where
-  pub low : r < bound
-  pub is : n < bound → r ≡ n
-
 -- what holds of a choice that is laid out as choice j is
 pub record As (k j : ℕ) (P : Type 0) : Type 0 where
   pub so : layout_of k ≡ layout_of j → P

@@ -21,23 +21,16 @@ pub(crate) fn head(
     requires { depth ≤ 5 }
     ensures { Opens lent.now depth k n start c result out.old out.new × Deep depth result }
 {
-    if k == apdu::OCTET_STRING {
-        let d = kind(depth, k, out, c);
-        return string(lent, start, n, out, d);
-    }
-    if k == apdu::DSRC_EID {
-        let d = kind(depth, k, out, c);
-        return number(n, out, d);
-    }
-    if k == apdu::ATTRIBUTE_ID_LIST {
-        let d = kind(depth, k, out, c);
-        return ids(lent, start, n, out, d);
-    }
     let d = kind(depth, k, out, c);
-    row_count(depth + 1, n, out, d)
+    match k {
+        apdu::OCTET_STRING => string(lent, start, n, out, d),
+        apdu::DSRC_EID => number(n, out, d),
+        apdu::ATTRIBUTE_ID_LIST => ids(lent, start, n, out, d),
+        _ => row_count(depth + 1, n, out, d),
+    }
 }
 
-#[derive(Clone, Copy)]
+#[derive(Clone, Copy, Debug, PartialEq, Eq)]
 pub struct RowPut {
     pub quill: Quill,
     pub due: Due,

@@ -28,6 +28,7 @@ pub(crate) fn row_count(depth: usize, n: u64, out: &mut [u8], c: Quill) -> Quill
     ensures { Moves true (row_count depth ∷ []) (times n (integer ∷ container depth ∷ [])) c result out.old out.new (num n ∷ []) }
 {
     let room = c.room as u64;
+    // Speed: `&` of plain tests needs no jump.
     let few = (n <= apdu::MOST_COUNTED) & (n <= room);
     spend(n, put(out, 1, n, few, c))
 }
@@ -36,6 +37,7 @@ pub(crate) fn row_count(depth: usize, n: u64, out: &mut [u8], c: Quill) -> Quill
 pub(crate) fn kind(depth: usize, k: u64, out: &mut [u8], c: Quill) -> Quill
     ensures { Moves true (container depth ∷ []) (content depth k) c result out.old out.new (num k ∷ []) × Known depth k result }
 {
+    // Speed: `&` of plain tests needs no jump.
     let fine = (depth <= apdu::DEEPEST) & known(k);
     put(out, 1, k, fine, c)
 }

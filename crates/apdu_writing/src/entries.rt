@@ -9,7 +9,6 @@ ghost use Rattle.apdu_writing.specs.Applications.{Listed};
 
 use crate::component::number_if;
 use crate::counted::entry_count;
-use crate::kinds::{bit, small};
 use crate::lists::boxed;
 use crate::quill::{Quill, put};
 use apdu::{Entry, Row, entry_rows};
@@ -46,7 +45,7 @@ fn application(
 ) -> Quill
     ensures { Puts (entry_sound (length lent.now) e (take (entry_rows e) (drop first table))) (entry ∷ []) c result out.old out.new (entry_values lent.now e (take (entry_rows e) (drop first table))) }
 {
-    let v = 128 * bit(e.has_eid) + 64 * bit(e.has_parameter) + small(e.aid as u64, 32);
+    let v = 128 * u64::from(e.has_eid) + 64 * u64::from(e.has_parameter) + e.aid as u64 % 32;
     let d = put(out, 1, v, e.aid < 32, c);
     let f = number_if(e.has_eid, e.eid as u64, out, d);
     parameter(
@@ -64,7 +63,7 @@ fn application(
 }
 
 // The quill behind entries, and the rows that they have used.
-#[derive(Clone, Copy)]
+#[derive(Clone, Copy, Debug, PartialEq, Eq)]
 pub struct EntriesPut {
     pub quill: Quill,
     pub used: usize,
@@ -90,12 +89,10 @@ pub(crate) fn applications(
     if !d.ok {
         return EntriesPut { quill: q, used };
     }
-    let mut i: usize = 0;
-    while i < n as usize {
+    for i in 0..n as usize {
         let e = list[from + i];
         q = application(lent, e, table, used, out, q);
         used += entry_rows(e);
-        i += 1;
     }
     EntriesPut { quill: q, used }
 }

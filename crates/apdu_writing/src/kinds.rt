@@ -1,9 +1,9 @@
 // The messages, one function for each kind of record: the choice and the bits after it are one octet.
-ghost use Rattle.std.specs.Prelude.{◌≡◌, true, [], ◌∷◌, ◌<◌, ◌≤◌, length};
+ghost use Rattle.std.specs.Prelude.{true, [], ◌∷◌, ◌<◌, length};
 ghost use Rattle.apdu_format.specs.Component.{choice};
 ghost use Rattle.apdu_format.specs.Reading.{fields};
-ghost use Rattle.apdu.specs.Values.{bit_of, response_values, request_values, action_response_values, set_request_values, get_request_values, get_response_values};
-ghost use Rattle.apdu_writing.specs.Quill.{Puts, Small, As};
+ghost use Rattle.apdu.specs.Values.{response_values, request_values, action_response_values, set_request_values, get_request_values, get_response_values};
+ghost use Rattle.apdu_writing.specs.Quill.{Puts, As};
 ghost use Rattle.apdu.specs.Sound.{request_sound, action_response_sound, set_request_sound, get_request_sound, get_response_sound};
 
 use crate::component::{number, number_if, string_if};
@@ -11,26 +11,12 @@ use crate::lists::{attributes, attributes_if, boxed_if, ids_if};
 use crate::quill::{Quill, put};
 use apdu::{ActionResponse, GetRequest, GetResponse, Request, Response, Row, SetRequest};
 
-pub(crate) fn bit(p: bool) -> u64
-    ensures { (result ≡ bit_of p) × (result ≤ 1) }
-{
-    if p { 1 } else { 0 }
-}
-
-// n, or 0 where it is not below `bound`.
-pub(crate) fn small(n: u64, bound: u64) -> u64
-    requires { 0 < bound }
-    ensures { Small n bound result }
-{
-    if n < bound { n } else { 0 }
-}
-
 // Event or set response.
 pub(crate) fn response(k: u64, m: Response, out: &mut [u8], c: Quill) -> Quill
     requires { k < 10 }
     ensures { As k 3 (Puts true (choice ∷ []) c result out.old out.new (fields (k ∷ []) ∷ response_values m)) }
 {
-    let v = 16 * k + 8 * bit(m.has_iid) + 4 * bit(m.has_ret) + small(m.fill, 4);
+    let v = 16 * k + 8 * u64::from(m.has_iid) + 4 * u64::from(m.has_ret) + m.fill % 4;
     let d = put(out, 1, v, m.fill < 4, c);
     let e = number(m.eid, out, d);
     let f = number_if(m.has_iid, m.iid, out, e);
@@ -50,10 +36,10 @@ pub(crate) fn request(
     ensures { As k 0 (Puts (request_sound (length lent.now) m table) (choice ∷ []) c result out.old out.new (fields (k ∷ []) ∷ request_values lent.now m table)) }
 {
     let v = 16 * k
-        + 8 * bit(m.has_credentials)
-        + 4 * bit(m.has_parameter)
-        + 2 * bit(m.has_iid)
-        + bit(m.mode);
+        + 8 * u64::from(m.has_credentials)
+        + 4 * u64::from(m.has_parameter)
+        + 2 * u64::from(m.has_iid)
+        + u64::from(m.mode);
     let d = put(out, 1, v, true, c);
     let e = number(m.eid, out, d);
     let f = number(m.service, out, e);
@@ -89,10 +75,10 @@ pub(crate) fn action_response(
     ensures { Puts (action_response_sound (length lent.now) m table) (choice ∷ []) c result out.old out.new (fields (1 ∷ []) ∷ action_response_values lent.now m table) }
 {
     let v = 16 * 1
-        + 8 * bit(m.has_iid)
-        + 4 * bit(m.has_parameter)
-        + 2 * bit(m.has_ret)
-        + small(m.fill, 2);
+        + 8 * u64::from(m.has_iid)
+        + 4 * u64::from(m.has_parameter)
+        + 2 * u64::from(m.has_ret)
+        + m.fill % 2;
     let d = put(out, 1, v, m.fill < 2, c);
     let e = number(m.eid, out, d);
     let f = number_if(m.has_iid, m.iid, out, e);
@@ -120,10 +106,10 @@ pub(crate) fn set_request(
     ensures { Puts (set_request_sound (length lent.now) m table) (choice ∷ []) c result out.old out.new (fields (4 ∷ []) ∷ set_request_values lent.now m table) }
 {
     let v = 16 * 4
-        + 8 * bit(m.has_credentials)
-        + 4 * bit(m.has_iid)
-        + 2 * small(m.fill, 2)
-        + bit(m.mode);
+        + 8 * u64::from(m.has_credentials)
+        + 4 * u64::from(m.has_iid)
+        + 2 * (m.fill % 2)
+        + u64::from(m.mode);
     let d = put(out, 1, v, m.fill < 2, c);
     let e = number(m.eid, out, d);
     let f = string_if(
@@ -142,10 +128,10 @@ pub(crate) fn get_request(lent: &[u8], m: GetRequest, out: &mut [u8], c: Quill) 
     ensures { Puts (get_request_sound (length lent.now) m) (choice ∷ []) c result out.old out.new (fields (6 ∷ []) ∷ get_request_values lent.now m) }
 {
     let v = 16 * 6
-        + 8 * bit(m.has_credentials)
-        + 4 * bit(m.has_iid)
-        + 2 * bit(m.has_ids)
-        + small(m.fill, 2);
+        + 8 * u64::from(m.has_credentials)
+        + 4 * u64::from(m.has_iid)
+        + 2 * u64::from(m.has_ids)
+        + m.fill % 2;
     let d = put(out, 1, v, m.fill < 2, c);
     let e = number(m.eid, out, d);
     let f = string_if(
@@ -170,10 +156,10 @@ pub(crate) fn get_response(
     ensures { Puts (get_response_sound (length lent.now) m table) (choice ∷ []) c result out.old out.new (fields (7 ∷ []) ∷ get_response_values lent.now m table) }
 {
     let v = 16 * 7
-        + 8 * bit(m.has_iid)
-        + 4 * bit(m.has_attributes)
-        + 2 * bit(m.has_ret)
-        + small(m.fill, 2);
+        + 8 * u64::from(m.has_iid)
+        + 4 * u64::from(m.has_attributes)
+        + 2 * u64::from(m.has_ret)
+        + m.fill % 2;
     let d = put(out, 1, v, m.fill < 2, c);
     let e = number(m.eid, out, d);
     let f = number_if(m.has_iid, m.iid, out, e);

@@ -6,7 +6,7 @@ ghost use Rattle.apdu_writing.specs.Quill.{least, Put, spent};
 
 // at: the next octet, or FAR for any place from there on; room: how many attribute rows may still be announced; ok: whether all so far is in range.
 // The fields leave no gap, so that a quill is copied as one word.
-#[derive(Clone, Copy)]
+#[derive(Clone, Copy, Debug, PartialEq, Eq)]
 pub struct Quill {
     pub at: u16,
     pub room: u8,
@@ -20,11 +20,7 @@ fn beyond(at: u16, octets: usize) -> u16
     requires { octets ≤ 128 }
     ensures { result ≡ least (at + octets) }
 {
-    let place = at as usize + octets;
-    if FAR <= place {
-        return FAR as u16;
-    }
-    place as u16
+    (at as usize + octets).min(FAR) as u16
 }
 
 // Writes the so many low octets of `v` where they fit, if `fine`.
@@ -36,17 +32,12 @@ pub(crate) fn put(out: &mut [u8], octets: usize, v: u64, fine: bool, c: Quill) -
         return c;
     }
     if !fine {
-        return Quill {
-            at: c.at,
-            room: c.room,
-            ok: false,
-        };
+        return Quill { ok: false, ..c };
     }
     let w = bits::write_field(out, 8 * (c.at as usize), 8 * octets, v);
     Quill {
         at: beyond(c.at, octets),
-        room: c.room,
-        ok: true,
+        ..c
     }
 }
 
@@ -65,19 +56,15 @@ pub(crate) fn put_octets(
     if !c.ok {
         return c;
     }
+    // Speed: `&` of plain tests needs no jump.
     let whole = fine & bits::inside(lent.len(), start, n);
     if !whole {
-        return Quill {
-            at: c.at,
-            room: c.room,
-            ok: false,
-        };
+        return Quill { ok: false, ..c };
     }
     let w = bits::write_string(lent, start, n, out, 8 * (c.at as usize));
     Quill {
         at: beyond(c.at, n),
-        room: c.room,
-        ok: true,
+        ..c
     }
 }
 
@@ -85,17 +72,8 @@ pub(crate) fn put_octets(
 pub(crate) fn spend(n: u64, c: Quill) -> Quill
     ensures { result ≡ spent n c }
 {
-    let room = c.room as u64;
-    if room < n {
-        return Quill {
-            at: c.at,
-            room: 0,
-            ok: c.ok,
-        };
-    }
     Quill {
-        at: c.at,
-        room: (room - n) as u8,
-        ok: c.ok,
+        room: (c.room as u64).saturating_sub(n) as u8,
+        ..c
     }
 }

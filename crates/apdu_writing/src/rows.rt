@@ -13,39 +13,21 @@ use apdu::{Due, Row, clamped};
 fn finished(u: Due) -> bool
     ensures { result ≡ eqb (total u) 0 }
 {
-    if u.d5 != 0 {
-        return false;
-    }
-    if u.d4 != 0 {
-        return false;
-    }
-    if u.d3 != 0 {
-        return false;
-    }
-    if u.d2 != 0 {
-        return false;
-    }
-    u.d1 == 0
+    u.d5 == 0 && u.d4 == 0 && u.d3 == 0 && u.d2 == 0 && u.d1 == 0
 }
 
 pub(crate) fn halt(c: Quill) -> Quill
     ensures { result ≡ halted c }
 {
-    Quill {
-        at: c.at,
-        room: c.room,
-        ok: false,
-    }
+    Quill { ok: false, ..c }
 }
 
 // The quill behind so many rows, if they are there: it stops where they pass the limit of a message.
 pub(crate) fn within(p: bool, rows: usize, c: Quill) -> Quill
     ensures { result ≡ limited (count_if p rows) c }
 {
-    if p {
-        if apdu::MOST_ROWS < rows as u64 {
-            return halt(c);
-        }
+    if p && apdu::MOST_ROWS < rows as u64 {
+        return halt(c);
     }
     c
 }
@@ -65,21 +47,13 @@ pub(crate) fn rows(
     let n = clamped(first, count);
     let mut d = c;
     let mut u = due;
-    let mut i: usize = 0;
-    while i < n {
+    for i in 0..n {
         if finished(u) {
             return halt(d);
         }
-        let w = table[first + i];
-        let t = next_row(lent, w, u, out, d);
-        let q = t.quill;
-        let v = t.due;
-        d = q;
-        u = v;
-        i += 1;
+        let t = next_row(lent, table[first + i], u, out, d);
+        d = t.quill;
+        u = t.due;
     }
-    if finished(u) {
-        return d;
-    }
-    halt(d)
+    if finished(u) { d } else { halt(d) }
 }

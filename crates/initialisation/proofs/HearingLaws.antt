@@ -1,6 +1,6 @@
 -- The BST call: what its checks tell, and one law for each way out.
 -- Assumes nothing.
-use Rattle.std.proofs.Common.{◌≡◌, ℕ, ◌^◌, ◌<◌, ◌≤◌, Bool, true, not, ◌&&◌, eqb, ltb, leb, List, [], ◌∷◌, length, sym, ap, ◌∙◌, arith, ltb-false, eq-eqb, ne_eqb, leb-true}
+use Rattle.std.proofs.Common.{◌≡◌, ℕ, ◌^◌, ◌<◌, ◌≤◌, Bool, true, false, not, ◌&&◌, eqb, ltb, leb, List, [], ◌∷◌, length, sym, ap, ◌∙◌, arith, ltb-false, eq-eqb, ne_eqb, leb-true}
 use borrow.Author.Tests.{not-false}
 use Rattle.refusals.specs.Check.{pick, check, first_of}
 use Rattle.refusals.proofs.Tests.{by_test, first_none}
@@ -16,11 +16,12 @@ use Rattle.initialisation.specs.declared.records.Phase.TheVariants.{Ready}
 use Rattle.initialisation.specs.declared.records.Link.{Link}
 use Rattle.initialisation.specs.declared.records.Element.{Element}
 use Rattle.initialisation.specs.declared.records.Elements.{Elements}
-use Rattle.initialisation.specs.declared.records.BstResult.{BstResult}
-use Rattle.initialisation.specs.declared.records.BstAnswer.TheVariants as answer
 use Rattle.initialisation.specs.Link.{lid_in_range, link_in_range}
 use Rattle.initialisation.specs.Elements.{element_sound, none_has, each_sound, own_elements, elements_sound}
-use Rattle.std.specs.Prelude.{Option, None, Some}
+use Rattle.std.specs.Prelude.{Option, None, Some, Result, Ok, Err}
+use Rattle.refusals.specs.declared.Refusal.{Refusal}
+use Rattle.refusals.specs.declared.Refusal.TheVariants as refusal
+use Rattle.refusals.specs.Refusal.{number_of}
 use Rattle.initialisation.specs.Offer.{or_else, first_served, profile_of, offered_by, element_of, pair_of}
 use Rattle.initialisation.specs.Known.{is_known}
 use Rattle.initialisation.specs.declared.hearing.Taken.{Taken}
@@ -125,33 +126,86 @@ sendable c t h s =
 
 -- ---- what is decided
 
-pub chosen : (link : Link) (bst : Bst) (entries : List Entry) (lent : List ℕ) (own : Elements) {known : Bool} {b : Beacon} {f : Option ℕ} {g : Option Element}
-    → known ≡ is_known link.phase link.time b bst.time → b ≡ beacon_of bst → f ≡ profile_of lent bst → g ≡ pair_of (offered_by bst entries) (own_elements own)
-    → pick known None (both f g) ≡ sent_for link bst entries lent own
-unfolding sent_for
-chosen link bst entries lent own e h i j = rw (e, h, i, j)
+pub known_is : (link : Link) (bst : Bst) {k : Bool} {b : Beacon} → k ≡ is_known link.phase link.time b bst.time → b ≡ beacon_of bst
+    → is_known link.phase link.time (beacon_of bst) bst.time ≡ k
+known_is link bst p e = sym (p ∙ ap (λ (b : Beacon). is_known link.phase link.time b bst.time) e)
+
+module _ (link : Link) (bst : Bst) (entries : List Entry) (lent : List ℕ) (own : Elements) where
+  abbrev profile : Option ℕ
+  profile = profile_of lent bst
+
+  abbrev pair : Option Element
+  pair = pair_of (offered_by bst entries) (own_elements own)
+
+  abbrev known : Bool
+  known = is_known link.phase link.time (beacon_of bst) bst.time
+
+  pub known_stays : known ≡ true → None ≡ sent_for link bst entries lent own
+  unfolding sent_for
+  known_stays h = rw h
+
+  module _ (h : known ≡ false) where
+    pub no_profile : profile ≡ None → None ≡ sent_for link bst entries lent own
+    unfolding sent_for
+    no_profile e = rw (h, e)
+
+    module _ {p : ℕ} (e : profile ≡ Some p) where
+      pub no_pair : pair ≡ None → None ≡ sent_for link bst entries lent own
+      unfolding sent_for
+      no_pair f = rw (h, e, f)
+
+      pub starts : {x : Element} → pair ≡ Some x → Some (record { profile = p; element = x }) ≡ sent_for link bst entries lent own
+      unfolding sent_for
+      starts f = rw (h, e, f)
 
 -- ---- the ways out
 
-module _ (c : Call) {r : BstResult} where
-  pub refused_gives : {n : ℕ} → n ≡ hearing_refusal c → (n ≡ 0 → ⊥) → (r.answer ≡ answer.Refused n) × (r.link ≡ c.link) → BstGives c r c.out
+-- no refusal has the number 0
+numbered : (r : Refusal) → 0 < number_of r
+numbered refusal.StoreOrOutputLength = omega arith
+numbered refusal.TableNotSound = omega arith
+numbered refusal.LidOutOfRange = omega arith
+numbered refusal.LsduLength = omega arith
+numbered refusal.HeaderNotValid = omega arith
+numbered refusal.NumberReserved = omega arith
+numbered refusal.NoPayload = omega arith
+numbered refusal.NotOpen = omega arith
+numbered refusal.NoFreeSlot = omega arith
+numbered refusal.CounterNotExpected = omega arith
+numbered refusal.CounterExhausted = omega arith
+numbered refusal.MessageTooLong = omega arith
+numbered refusal.CutShort = omega arith
+numbered refusal.OctetsLeft = omega arith
+numbered refusal.ChoiceUnknown = omega arith
+numbered refusal.ExtensionBit = omega arith
+numbered refusal.ContainerKind = omega arith
+numbered refusal.CountTooLarge = omega arith
+numbered refusal.TooDeep = omega arith
+numbered refusal.ApduTooLong = omega arith
+numbered refusal.OutputTooSmall = omega arith
+numbered refusal.RecordOutOfRange = omega arith
+numbered refusal.NotServed = omega arith
+numbered refusal.LinkNotReady = omega arith
+numbered refusal.ListNotSound = omega arith
+
+module _ (c : Call) where
+  pub refused_gives : {r : Refusal} → number_of r ≡ hearing_refusal c → BstGives c (Err r) c.link c.out
   unfolding heard_of
-  refused_gives {n} e h x =
-      let k = ne_eqb (hearing_refusal c) 0 (λ z. h (e ∙ z)) in
-      record { reply_is = ap reply_of x.0 ∙ rw (k, e); link_is = x.1 ∙ rw k; output_is = rw k }
+  refused_gives {r} e =
+      let k = ne_eqb (hearing_refusal c) 0 (λ z. omega (arith, numbered r, e)) in
+      record { reply_is = rw (k, e); link_is = rw k; output_is = rw k }
 
   module _ (h : hearing_refusal c ≡ 0) where
-    pub silent_gives : {p : Phase} → None ≡ sent c → p ≡ woken c.link.phase
-        → (r.answer ≡ answer.Silent) × (r.link ≡ record { time = c.bst.time; tick = c.tick; phase = p }) → BstGives c r c.out
+    pub silent_gives : {p : Phase} → None ≡ sent c → p ≡ woken c.link.phase → BstGives c (Ok None) (record { time = c.bst.time; tick = c.tick; phase = p }) c.out
     unfolding heard_of
-    silent_gives s e x =
+    silent_gives s e =
         let k = eq-eqb (hearing_refusal c) 0 h in
-        record { reply_is = ap reply_of x.0 ∙ rw (k, sym s); link_is = x.1 ∙ rw (k, sym s, e); output_is = rw (k, sym s) }
+        record { reply_is = rw (k, sym s); link_is = rw (k, sym s, e); output_is = rw (k, sym s) }
 
     pub started_gives : (t : Taken) {b : Beacon} {n : ℕ} {out : List ℕ} → Some t ≡ sent c → b ≡ beacon_of c.bst
         → Sends t.profile t.element c.configuration c.marks n c.out out
-        → (r.answer ≡ answer.Vst n) × (r.link ≡ record { time = c.bst.time; tick = c.tick; phase = Ready b c.lid }) → BstGives c r out
+        → BstGives c (Ok (Some n)) (record { time = c.bst.time; tick = c.tick; phase = Ready b c.lid }) out
     unfolding heard_of
-    started_gives t s e w x =
+    started_gives t s e w =
         let k = eq-eqb (hearing_refusal c) 0 h in
-        record { reply_is = ap reply_of x.0 ∙ rw (k, sym s, w.octets); link_is = x.1 ∙ rw (k, sym s, e); output_is = w.output ∙ rw (k, sym s) }
+        record { reply_is = rw (k, sym s, w.octets); link_is = rw (k, sym s, e); output_is = w.output ∙ rw (k, sym s) }

@@ -1,6 +1,6 @@
 -- The difference of two times, as the machine computes it, and what its range says.
 -- Assumes nothing.
-use Rattle.std.proofs.Common.{◌≡◌, ℕ, zero, suc, ◌^◌, ◌<◌, true, false, ltb, ℤ, pos, negsuc, ◌-ℤ◌, sym, refl, ◌∙◌, ap₂, arith, w64, SFits, to_z, of_z, ltb-false, ltb-true, lt-ltb, le-leb}
+use Rattle.std.proofs.Common.{◌≡◌, ℕ, zero, suc, ◌^◌, ◌<◌, true, false, ltb, ℤ, pos, negsuc, ◌-ℤ◌, sym, refl, ◌∙◌, ap₂, arith, w64, SFits, to_z, of_z, ltb-false, ltb-true, le-leb}
 use lib.Signed.{mag, lt_z}
 use borrow.Author.Tests.{lt-leb}
 use mir.ValLaws.{to_z-of_z}
@@ -28,18 +28,18 @@ small : (t s : ℕ) → t < 2 ^ 32 → s < 2 ^ 32 → mag (pos t -ℤ pos s) < 2
 small t zero a b = omega arith
 small t (suc n) a b = by_cases (ltb t (suc n)) (λ e. rw e (omega arith)) (λ e. rw e (omega arith))
 
-wide : (n : ℕ) → n < 2 ^ 32 → to_z w64 n ≡ pos n
-wide n h = rw (lt-ltb n (2 ^ 63) (omega arith))
+wide : {a : ℤ} {n : ℕ} → a ≡ pos n → n < 2 ^ 32 → to_z w64 (of_z w64 a) ≡ pos n
+wide {a} {n} e h = to_z-of_z w64 a (rw e (record { sfits = omega arith })) ∙ e
 
-module _ (t s : ℕ) (a : t < 2 ^ 32) (b : s < 2 ^ 32) where
+module _ {a b : ℤ} {t s : ℕ} (p : a ≡ pos t) (q : b ≡ pos s) (h : t < 2 ^ 32) (k : s < 2 ^ 32) where
   abbrev machine : ℤ
-  machine = to_z w64 t -ℤ to_z w64 s
+  machine = to_z w64 (of_z w64 a) -ℤ to_z w64 (of_z w64 b)
 
   machine_is : machine ≡ pos t -ℤ pos s
-  machine_is = ap₂ ◌-ℤ◌ (wide t a) (wide s b)
+  machine_is = ap₂ ◌-ℤ◌ (wide p h) (wide q k)
 
-  pub fits : SFits w64 machine
-  fits = rw machine_is (record { sfits = small t s a b })
+  fits : SFits w64 machine
+  fits = rw machine_is (record { sfits = small t s h k })
 
   difference : to_z w64 (of_z w64 machine) ≡ elapsed t s
   unfolding elapsed

@@ -12,6 +12,7 @@ use Rattle.apdu.specs.declared.records.Bst.{Bst}
 use Rattle.apdu.specs.Values.{empty_entry}
 use Rattle.initialisation.specs.declared.records.Element.{Element}
 use Rattle.initialisation.specs.Elements.{no_element}
+use Prim.Native.Nat.{min}
 use Rattle.std.specs.Prelude.{Option, None, Some}
 use Rattle.initialisation.specs.Offer.{or_else, first_served, offered_by, element_of, pair_of}
 use Rattle.initialisation.specs.Searching.{Counts}
@@ -71,13 +72,25 @@ module _ (bst : Bst) where
       rest true = refl
       rest false = refl
 
-  pub counted : {k : ℕ} → k ≤ 32 → (all < 32 → k ≡ all) → (32 ≤ all → k ≡ 32) → Counts bst k
-  counted {k} few below above = record { few = few; so = λ es n. so es n ∙ sym (offered_together es) }
+  -- as many as there are, up to the 32 that stand there
+  pub counted : {o r k : ℕ} → o ≡ others → r ≡ min (bst.mandatory + o) 18446744073709551615 → k ≡ min r 32 → Counts bst k
+  counted {o} {r} {k} e f g = record { few = omega (arith, g); so = λ es n. so es n ∙ sym (offered_together es) }
     where
+      below : all < 32 → k ≡ all
+      below h = omega (arith, e, f, g)
+
+      above : 32 ≤ all → k ≡ 32
+      above h = omega (arith, e, f, g)
+
       so : (es : List Entry) → length es ≡ 32 → take k es ≡ take all es
       so es n =
           by_cases (ltb all 32) (λ t. ap (λ (i : ℕ). take i es) (below (ltb-true all 32 t)))
-          (λ t. let h = ltb-false all 32 t in let e = above h in take_all k es (omega arith) ∙ sym (take_all all es (omega arith)))
+          (λ t. let h = ltb-false all 32 t in let i = above h in take_all k es (omega arith) ∙ sym (take_all all es (omega arith)))
+
+-- the pair of those that are offered
+pub offered_is : (bst : Bst) (entries : List Entry) (es : List Element) {k : ℕ} → length entries ≡ 32 → Counts bst k
+    → pair_of (take k entries) es ≡ pair_of (offered_by bst entries) es
+offered_is bst entries es n is = ap (λ (l : List Entry). pair_of l es) (is.so entries n)
 
 -- ---- the profile
 

@@ -21,8 +21,10 @@ use Rattle.apdu.specs.declared.records.Vst.{Vst}
 use Rattle.apdu.specs.declared.records.Message.TheVariants as kind
 use Rattle.apdu.specs.Values.{bit_of, num, if, head_values, rows_values, entry_values, entries_values, entry_rows, rows_of, vst_values, values_of, empty_entry}
 use Rattle.apdu.specs.Sound.{sound_if, part_fits, parts_fit, closes, rows_sound, container_sound, entry_sound, entries_sound, vst_sound, sound, rows_present, rows_fit, well_formed}
-use Rattle.apdu_writing.specs.declared.writing.ApduWritten.{ApduWritten}
-use Rattle.apdu_writing.specs.declared.writing.ApduWritten.TheVariants as written
+use Rattle.std.specs.Prelude.{Result, Ok, Err}
+use Rattle.std.specs.Result.{result_unwrap_or}
+use Rattle.apdu_writing.specs.declared.writing.WriteRefusal.{WriteRefusal}
+use Rattle.apdu_writing.specs.declared.writing.WriteRefusal.TheVariants as refusal
 use Rattle.apdu_writing.specs.Answer.{answer_of, write_refusal, answered, write_answer, write_output}
 use Rattle.apdu_writing.specs.Answer.{octets as octets_written}
 use Rattle.apdu_writing.specs.Quill.{pen_at, writes}
@@ -32,7 +34,7 @@ use Rattle.initialisation.specs.declared.records.Configuration.{Configuration}
 use Rattle.initialisation.specs.Elements.{element_sound}
 use Rattle.initialisation.specs.declared.hearing.Taken.{Taken}
 use Rattle.initialisation.specs.Hearing.{configuration_in_range, entry_of, mark_of, vst_of, vst_for}
-use Rattle.initialisation.specs.Searching.{octets_in, Sends}
+use Rattle.initialisation.specs.Searching.{Sends}
 
 -- ---- values that are written for components, n bits in all
 
@@ -263,12 +265,12 @@ module _ (marks : List ℕ) (t : Taken) (k : Configuration) (can : Sendable mark
 
 -- ---- what writing it gives
 
-octets_told : (w : ApduWritten) (n : ℕ) → answer_of w ≡ octets_written n → octets_in w ≡ n
+octets_told : (w : Result ℕ WriteRefusal) (n : ℕ) → answer_of w ≡ octets_written n → w ≡ Ok n
 unfolding answer_of
-octets_told written.RecordOutOfRange n h = let z : ◌≡◌ {A = ℕ} 0 1 = cc in absurd (omega arith)
-octets_told (written.MessageTooLong p) n h = let z : ◌≡◌ {A = ℕ} 0 1 = cc in absurd (omega arith)
-octets_told written.OutputTooSmall n h = let z : ◌≡◌ {A = ℕ} 0 1 = cc in absurd (omega arith)
-octets_told (written.Octets m) n h = cc
+octets_told (Ok m) n h = let e : m ≡ n = cc in ap Ok e
+octets_told (Err refusal.RecordOutOfRange) n h = let z : ◌≡◌ {A = ℕ} 0 1 = cc in absurd (omega arith)
+octets_told (Err (refusal.MessageTooLong p)) n h = let z : ◌≡◌ {A = ℕ} 0 1 = cc in absurd (omega arith)
+octets_told (Err refusal.OutputTooSmall) n h = let z : ◌≡◌ {A = ℕ} 0 1 = cc in absurd (omega arith)
 
 module _ (marks : List ℕ) (t : Taken) (k : Configuration) (can : Sendable marks t k) (rs : List Row) (out : List ℕ) (room : 512 ≤ length out) {v : Vst} {x : Entry} {es : List Entry} {s : List ℕ}
     (a : v ≡ vst_of t.profile k) (b : x ≡ entry_of t.element) (d : es ≡ replicate 32 empty_entry) (m : s ≡ mark_of t.element marks) where
@@ -278,11 +280,11 @@ module _ (marks : List ℕ) (t : Taken) (k : Configuration) (can : Sendable mark
   values_are : values_of s (kind.Vst v) (set es 0 x) rs ≡ vst_for t marks k
   values_are = rw (a, b, d, m) (vst_values_law marks t k can (replicate 31 empty_entry) rs)
 
-  pub sends : (w : ApduWritten) {n : ℕ} {out' : List ℕ} → n ≡ octets_in w → answer_of w ≡ write_answer s (kind.Vst v) (set es 0 x) rs (length out)
+  pub sends : (w : Result ℕ WriteRefusal) {n : ℕ} {out' : List ℕ} → n ≡ result_unwrap_or w 0 → answer_of w ≡ write_answer s (kind.Vst v) (set es 0 x) rs (length out)
       → out' ≡ write_output s (kind.Vst v) (set es 0 x) rs out → Sends t.profile t.element k marks n out out'
   unfolding write_answer answered write_output
-  sends w {n} {out'} e told left =
+  sends w {n} {out'} is told left =
       record {
-        octets = e ∙ octets_told w (size (vst_for t marks k)) (told ∙ rw (passed, values_are));
+        octets = is ∙ rw (octets_told w (size (vst_for t marks k)) (told ∙ rw (passed, values_are)));
         output = left ∙ rw (passed, values_are);
       }

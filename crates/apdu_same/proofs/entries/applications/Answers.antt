@@ -5,7 +5,7 @@ use lib.ListN.{length}
 use Rattle.apdu.specs.Values.{empty_entry}
 use Rattle.apdu.proofs.Tables.{long, part_length, part_place}
 use Rattle.apdu_same.proofs.EntryLists.{entries_all, entries_none, entry_other, entry_passed, rows_same, rows_other}
-use Rattle.apdu_same.proofs.entries.applications.Goals.{then-lists_rows+else-not-rows, else-lists_rows}
+use Rattle.apdu_same.proofs.entries.applications.Goals.{else-lists_rows-via-then-lists_rows+else-not-rows, else-lists_rows-via-else-lists_rows}
 use Rattle.apdu_same.proofs.entries.applications.Goals as goal
 
 pub loop-i-init : goal.loop-i-init
@@ -13,39 +13,21 @@ loop-i-init c =
     let t : length c.args.list ≡ 32 = search (rules, long) in
     let u : length c.args.other ≡ 32 = search (rules, long) in
     let k = c.clamped-k.ensures in
-    (omega arith, part_length _ c.args.from c.args.n t k.0, part_length _ c.args.from c.args.n u k.0, omega arith, omega arith, omega arith, entries_all _ _ _ _ _ _ _ _)
-
-pub overflow_add-e : goal.overflow_add-e
-overflow_add-e c = omega arith
-
-pub offset_bounds-list-from : goal.offset_bounds-list-from
-offset_bounds-list-from c = omega arith
-
-pub bounds-list-from : goal.bounds-list-from
-bounds-list-from c = omega arith
-
-pub overflow_add-f : goal.overflow_add-f
-overflow_add-f c = omega arith
-
-pub offset_bounds-other-from : goal.offset_bounds-other-from
-offset_bounds-other-from c = omega arith
-
-pub bounds-other-from : goal.bounds-other-from
-bounds-other-from c = omega arith
+    (part_length _ c.args.from c.args.n t k.0, part_length _ c.args.from c.args.n u k.0, omega arith, omega arith, entries_all _ _ _ _ _ _ _ _)
 
 pub returns-then-not-entry : goal.returns-then-not-entry
 returns-then-not-entry c =
     let l = c.loop-i in
     let h = c.loop-i-test.true in
     let a = c.args in
-    sym (l.invariant.6 ∙ entry_other _ _ _ _ _ _ l.i l.used l.gone (part_place empty_entry a.list a.from a.n l.i l.invariant.1 h) (part_place empty_entry a.other a.from a.n l.i l.invariant.2 h) (omega arith) (omega arith) c.entry.ensures c.if-not-entry.true-raw)
+    sym (l.invariant.4 ∙ entry_other _ _ _ _ _ _ l.i l.used l.gone (part_place empty_entry a.list a.from a.n l.i l.invariant.0 h) (part_place empty_entry a.other a.from a.n l.i l.invariant.1 h) (omega arith) (omega arith) c.entry.ensures c.if-not-entry.true)
 
 pub returns-then-not-rows : goal.returns-then-not-rows
 returns-then-not-rows c =
     let l = c.loop-i in
     let h = c.loop-i-test.true in
     let a = c.args in
-    sym (l.invariant.6 ∙ rows_other _ _ _ _ _ _ l.i l.used l.gone (part_place empty_entry a.list a.from a.n l.i l.invariant.1 h) (part_place empty_entry a.other a.from a.n l.i l.invariant.2 h) (omega arith) (omega arith) c.entry.ensures c.if-not-entry.false-raw c.entry_rows-own.ensures.0 c.entry_rows-theirs.ensures.0 c.lists_rows.ensures c.if-lists_rows.true c.rows.ensures c.if-not-rows.true-raw)
+    sym (l.invariant.4 ∙ rows_other _ _ _ _ _ _ l.i l.used l.gone (part_place empty_entry a.list a.from a.n l.i l.invariant.0 h) (part_place empty_entry a.other a.from a.n l.i l.invariant.1 h) (omega arith) (omega arith) c.entry.ensures c.if-not-entry.false c.entry_rows-own.ensures.0 c.entry_rows-theirs.ensures.0 c.lists_rows.ensures c.if-lists_rows.true c.rows.ensures c.if-not-rows.true)
 
 pub overflow_add-used : goal.overflow_add-used
 overflow_add-used c = omega (arith, c.entry_rows-own.ensures.1, c.loop-i.invariant, c.requires)
@@ -53,31 +35,21 @@ overflow_add-used c = omega (arith, c.entry_rows-own.ensures.1, c.loop-i.invaria
 pub overflow_add-gone : goal.overflow_add-gone
 overflow_add-gone c = omega (arith, c.entry_rows-theirs.ensures.1, c.loop-i.invariant, c.requires)
 
-pub overflow_add-i : goal.overflow_add-i
-overflow_add-i c = omega arith
-
-pub loop-i-smaller : goal.loop-i-smaller
-loop-i-smaller c = omega arith
-
 pub loop-i-preserved : goal.loop-i-preserved
 loop-i-preserved c =
     let l = c.loop-i in
     let h = c.loop-i-test.true in
-    let a = c.args in
-    let own = c.entry_rows-own.ensures in
-    let theirs = c.entry_rows-theirs.ensures in (
-      omega arith,
+    let a = c.args in (
+      l.invariant.0,
       l.invariant.1,
-      l.invariant.2,
-      l.invariant.3,
-      omega (arith, own.1),
-      omega (arith, theirs.1),
-      l.invariant.6
-          ∙ elim c.if-lists_rows.branch [
-            | then-lists_rows+else-not-rows w ↦ rows_same _ _ _ _ _ _ l.i l.used l.gone (part_place empty_entry a.list a.from a.n l.i l.invariant.1 h) (part_place empty_entry a.other a.from a.n l.i l.invariant.2 h) (omega arith) (omega arith) c.entry.ensures c.if-not-entry.false-raw own.0 theirs.0 c.lists_rows.ensures w.if-lists_rows.true w.rows.ensures w.if-not-rows.false-raw
-            | else-lists_rows w ↦ entry_passed _ _ _ _ _ _ l.i l.used l.gone (part_place empty_entry a.list a.from a.n l.i l.invariant.1 h) (part_place empty_entry a.other a.from a.n l.i l.invariant.2 h) (omega arith) (omega arith) c.entry.ensures c.if-not-entry.false-raw own.0 theirs.0 c.lists_rows.ensures w.if-lists_rows.false
+      omega (arith, c.entry_rows-own.ensures.1),
+      omega (arith, c.entry_rows-theirs.ensures.1),
+      l.invariant.4
+          ∙ elim c.else-lists_rows.branch [
+            | else-lists_rows-via-then-lists_rows+else-not-rows w ↦ rows_same _ _ _ _ _ _ l.i l.used l.gone (part_place empty_entry a.list a.from a.n l.i l.invariant.0 h) (part_place empty_entry a.other a.from a.n l.i l.invariant.1 h) (omega arith) (omega arith) c.entry.ensures c.if-not-entry.false c.entry_rows-own.ensures.0 c.entry_rows-theirs.ensures.0 c.lists_rows.ensures w.if-lists_rows.true w.rows.ensures w.if-not-rows.false
+            | else-lists_rows-via-else-lists_rows w ↦ entry_passed _ _ _ _ _ _ l.i l.used l.gone (part_place empty_entry a.list a.from a.n l.i l.invariant.0 h) (part_place empty_entry a.other a.from a.n l.i l.invariant.1 h) (omega arith) (omega arith) c.entry.ensures c.if-not-entry.false c.entry_rows-own.ensures.0 c.entry_rows-theirs.ensures.0 c.lists_rows.ensures w.if-lists_rows.false
           ],
     )
 
 pub returns : goal.returns
-returns c = let l = c.loop-i in sym (l.invariant.6 ∙ entries_none _ _ _ _ _ _ l.i l.used l.gone (omega arith) (omega arith))
+returns c = let l = c.loop-i in sym (l.invariant.4 ∙ entries_none _ _ _ _ _ _ l.i l.used l.gone (omega arith) (omega arith))

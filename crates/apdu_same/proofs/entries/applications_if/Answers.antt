@@ -1,16 +1,13 @@
 -- The counts are compared and then the entries, or they are passed over.
 -- Assumes nothing.
-use Rattle.apdu_same.specs.Walk.{same_applications}
-use Rattle.apdu_same.proofs.Outcomes.{if_there, if_passed, count_other, count_same}
+use Rattle.std.proofs.Common.{rules}
+use Rattle.apdu_same.specs.Walk.{same_if, same_applications}
 use Rattle.apdu_same.proofs.entries.applications_if.Goals as goal
 
-pub returns-then-n-m : goal.returns-then-n-m
-unfolding same_applications
-returns-then-n-m c = if_there _ _ c.if-before-p.true (count_other _ _ _ c.if-n-m.true)
-
-pub returns-then-before-p : goal.returns-then-before-p
-unfolding same_applications
-returns-then-before-p c = if_there _ _ c.if-before-p.true (count_same _ _ c.if-n-m.false c.applications.ensures)
+pub returns-then-p : goal.returns-then-p
+unfolding same_if same_applications
+returns-then-p c = search rules
 
 pub returns : goal.returns
-returns c = if_passed _ _ _ c.if-before-p.false
+unfolding same_if same_applications
+returns c = search rules

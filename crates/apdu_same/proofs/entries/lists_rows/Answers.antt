@@ -4,6 +4,10 @@ use Rattle.std.proofs.Common.{rules}
 use Rattle.apdu_same.specs.Walk.{lists_rows}
 use Rattle.apdu_same.proofs.entries.lists_rows.Goals as goal
 
-pub returns : goal.returns
+pub returns-then-e : goal.returns-then-e
 unfolding lists_rows
-returns c = search rules
+returns-then-e c = search rules
+
+pub returns-else-e : goal.returns-else-e
+unfolding lists_rows
+returns-else-e c = search rules

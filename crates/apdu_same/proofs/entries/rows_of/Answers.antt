@@ -1,38 +1,28 @@
-use Rattle.std.proofs.Common.{rules}
+use Rattle.std.proofs.Common.{rules, length-take-le}
 use native.Mathlib.Omega.{arith}
-use mathlib.Core.Path.{◌≡◌, refl}
-use lib.ListN.{length}
+use mathlib.Core.Path.{◌≡◌, refl, ◌∙◌}
+use lib.ListN.{length, take}
 use Rattle.apdu.proofs.Tables.{long}
-use Rattle.apdu_same.proofs.EntryLists.{rows_none_yet, rows_more, rows_whole}
+use Rattle.apdu_same.proofs.EntryLists.{rows_none_yet, rows_more, rows_whole, rows_clamped}
 use Rattle.apdu_same.proofs.entries.rows_of.Goals as goal
 
-pub loop-i-init : goal.loop-i-init
-loop-i-init c = (omega arith, omega arith, rows_none_yet c.args.list)
-
-pub offset_bounds-list-i : goal.offset_bounds-list-i
-offset_bounds-list-i c = omega arith
-
-pub bounds-list-i : goal.bounds-list-i
-bounds-list-i c = omega arith
+pub loop-entry-init : goal.loop-entry-init
+loop-entry-init c = (omega arith, rows_none_yet (take c.clamped.result c.args.list))
 
 pub overflow_add-used : goal.overflow_add-used
-overflow_add-used c = omega (arith, c.entry_rows-used.ensures.1)
-
-pub overflow_add-i : goal.overflow_add-i
-overflow_add-i c = omega arith
-
-pub loop-i-smaller : goal.loop-i-smaller
-loop-i-smaller c = omega arith
-
-pub loop-i-preserved : goal.loop-i-preserved
-loop-i-preserved c =
-    let l = c.loop-i in
+overflow_add-used c =
     let t : length c.args.list ≡ 32 = search (rules, long) in
-    (omega arith, omega (arith, c.entry_rows-used.ensures.1), rows_more _ l.i refl c.entry_rows-used.ensures.0 (omega arith) l.invariant.2)
+    let k = length-take-le c.clamped.result c.args.list (omega (arith, c.clamped.ensures.1)) in
+    omega (arith, c.entry_rows-used.ensures.1, c.clamped.ensures.1)
+
+pub loop-entry-preserved : goal.loop-entry-preserved
+loop-entry-preserved c =
+    let l = c.loop-entry in
+    (omega (arith, c.entry_rows-used.ensures.1), rows_more _ _ refl c.entry_rows-used.ensures.0 c.loop-entry-test.true l.invariant.1)
 
 pub returns : goal.returns
 returns c =
-    let l = c.loop-i in
+    let l = c.loop-entry in
     let t : length c.args.list ≡ 32 = search (rules, long) in
-    let k = c.clamped-k.ensures in
-    (rows_whole _ c.args.n l.i t (omega arith) l.invariant.2, omega arith)
+    let k = length-take-le c.clamped.result c.args.list (omega (arith, c.clamped.ensures.1)) in
+    (rows_whole _ _ c.loop-entry-test.false l.invariant.1 ∙ rows_clamped _ c.args.n t c.clamped.ensures.0, omega (arith, c.clamped.ensures.1))

@@ -1,11 +1,13 @@
 -- The numbers are compared or passed over.
 -- Assumes nothing.
-use mathlib.Core.Path.{refl}
-use Rattle.apdu_same.proofs.Outcomes.{if_there, if_passed}
+use Rattle.std.proofs.Common.{rules}
+use Rattle.apdu_same.specs.Walk.{same_if}
 use Rattle.apdu_same.proofs.fields.number_if.Goals as goal
 
-pub returns-then-before-p : goal.returns-then-before-p
-returns-then-before-p c = if_there _ _ c.if-before-p.true refl
+pub returns-then-p : goal.returns-then-p
+unfolding same_if
+returns-then-p c = search rules
 
 pub returns : goal.returns
-returns c = if_passed _ _ _ c.if-before-p.false
+unfolding same_if
+returns c = search rules

@@ -1,17 +1,17 @@
 -- The kinds are compared, then the numbers, and then the octets of a string or of a list of ids.
 -- Assumes nothing.
-use Rattle.apdu_same.proofs.Outcomes.{head_kind, head_count, head_part, head_number}
+use Rattle.std.proofs.Common.{rules}
+use Rattle.apdu_same.specs.Walk.{same_head}
 use Rattle.apdu_same.proofs.rows.head.Goals as goal
 
 pub returns-then-k-l : goal.returns-then-k-l
-returns-then-k-l c = head_kind _ _ _ _ _ _ _ _ c.if-k-l.true
+unfolding same_head
+returns-then-k-l c = search rules
 
-pub returns-then-n-m : goal.returns-then-n-m
-returns-then-n-m c = head_count _ _ _ _ _ _ _ _ c.if-k-l.false c.if-n-m.true
+pub returns-in-2 : goal.returns-in-2
+unfolding same_head
+returns-in-2 c = search rules
 
-pub returns-then-k : goal.returns-then-k
-returns-then-k c =
-    head_part _ _ _ _ _ _ _ _ c.if-k-l.false c.if-n-m.false c.if-k.true c.same_string.ensures
-
-pub returns : goal.returns
-returns c = head_number _ _ _ _ _ _ _ _ c.if-k-l.false c.if-n-m.false c.if-k.false
+pub returns-in_default : goal.returns-in_default
+unfolding same_head
+returns-in_default c = search rules

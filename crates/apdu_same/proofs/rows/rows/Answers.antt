@@ -17,45 +17,21 @@ pub loop-i-init : goal.loop-i-init
 loop-i-init c =
     let t : length c.args.table ≡ 32 = search (rules, long) in
     let u : length c.args.other ≡ 32 = search (rules, long) in
-    (omega arith, part_length _ c.args.first c.args.count t c.clamped-n.ensures.0, c.if-n-clamped.false ∙ part_length _ c.args.from c.args.size u c.clamped.ensures.0, rows_all _ _ _ _)
-
-pub overflow_add-v : goal.overflow_add-v
-overflow_add-v c = omega arith
-
-pub offset_bounds-table-first : goal.offset_bounds-table-first
-offset_bounds-table-first c = omega arith
-
-pub bounds-table-first : goal.bounds-table-first
-bounds-table-first c = omega arith
-
-pub overflow_add-w : goal.overflow_add-w
-overflow_add-w c = omega arith
-
-pub offset_bounds-other-from : goal.offset_bounds-other-from
-offset_bounds-other-from c = omega arith
-
-pub bounds-other-from : goal.bounds-other-from
-bounds-other-from c = omega arith
+    (part_length _ c.args.first c.args.count t c.clamped-n.ensures.0, c.if-n-clamped.false ∙ part_length _ c.args.from c.args.size u c.clamped.ensures.0, rows_all _ _ _ _)
 
 pub returns-then-not-row : goal.returns-then-not-row
 returns-then-not-row c =
     let l = c.loop-i in
     let h = c.loop-i-test.true in
     let a = c.args in
-    sym (l.invariant.3 ∙ row_other _ _ _ _ l.i (part_place empty_row a.table a.first a.count l.i l.invariant.1 h) (part_place empty_row a.other a.from a.size l.i l.invariant.2 h) (omega arith) (omega arith) c.row.ensures c.if-not-row.true-raw)
-
-pub overflow_add-i : goal.overflow_add-i
-overflow_add-i c = omega arith
-
-pub loop-i-smaller : goal.loop-i-smaller
-loop-i-smaller c = omega arith
+    sym (l.invariant.2 ∙ row_other _ _ _ _ l.i (part_place empty_row a.table a.first a.count l.i l.invariant.0 h) (part_place empty_row a.other a.from a.size l.i l.invariant.1 h) (omega arith) (omega arith) c.row.ensures c.if-not-row.true)
 
 pub loop-i-preserved : goal.loop-i-preserved
 loop-i-preserved c =
     let l = c.loop-i in
     let h = c.loop-i-test.true in
     let a = c.args in
-    (omega arith, l.invariant.1, l.invariant.2, l.invariant.3 ∙ row_same _ _ _ _ l.i (part_place empty_row a.table a.first a.count l.i l.invariant.1 h) (part_place empty_row a.other a.from a.size l.i l.invariant.2 h) (omega arith) (omega arith) c.row.ensures c.if-not-row.false-raw)
+    (l.invariant.0, l.invariant.1, l.invariant.2 ∙ row_same _ _ _ _ l.i (part_place empty_row a.table a.first a.count l.i l.invariant.0 h) (part_place empty_row a.other a.from a.size l.i l.invariant.1 h) (omega arith) (omega arith) c.row.ensures c.if-not-row.false)
 
 pub returns : goal.returns
-returns c = let l = c.loop-i in sym (l.invariant.3 ∙ rows_none _ _ _ _ l.i (omega arith) (omega arith))
+returns c = let l = c.loop-i in sym (l.invariant.2 ∙ rows_none _ _ _ _ l.i (omega arith) (omega arith))

@@ -1,6 +1,5 @@
 -- The loop compares row by row: what is left to compare after i rows is what was to compare.
 -- Assumes nothing.
-use Prim.Native.Nat.{◌≤◌, ◌-◌}
 use mathlib.Core.Path.{◌≡◌}
 use lib.ListN.{length, take, drop}
 use Rattle.apdu_same.specs.Walk.{same_rows}
@@ -9,8 +8,5 @@ use Rattle.apdu_same.proofs.rows.rows.Given as goal
 
 abbrev pub invariant-loop-i : goal.invariant-loop-i
 invariant-loop-i l =
-    (l.i ≤ l.n) × (l.n ≡ length (take l.count (drop l.first l.table))) × (l.n ≡ length (take l.size (drop l.from l.other)))
+    (l.n ≡ length (take l.count (drop l.first l.table))) × (l.n ≡ length (take l.size (drop l.from l.other)))
     × (same_rows l.s (take l.count (drop l.first l.table)) l.t (take l.size (drop l.from l.other)) ≡ RowsLeft l.s (take l.count (drop l.first l.table)) l.t (take l.size (drop l.from l.other)) l.i)
-
-abbrev pub decreases-loop-i : goal.decreases-loop-i
-decreases-loop-i l = l.n - l.i

@@ -7,14 +7,11 @@ use Rattle.apdu.proofs.Tables.{long}
 use Rattle.apdu_writing.proofs.EntryLists.{turns_none, turns_more, turns_all, turns_stopped}
 use Rattle.apdu_writing.proofs.entries.applications.Goals as goal
 
-pub shape_of-out-then-not-d : goal.shape_of-out-then-not-d
-shape_of-out-then-not-d c = c.entry_count-d.auto.out
-
 pub returns-then-not-d : goal.returns-then-not-d
 returns-then-not-d c = turns_stopped _ _ _ _ _ _ c.if-not-d.true c.entry_count-d.ensures.0
 
 pub loop-i-init : goal.loop-i-init
-loop-i-init c = (omega arith, refl, omega arith, turns_none _ _ _ _ _ _ _)
+loop-i-init c = (refl, omega arith, turns_none _ _ _ _ _ _ _)
 
 pub overflow_add-e : goal.overflow_add-e
 overflow_add-e c = omega (arith, c.entry_count-d.ensures.1.so (not-false _ c.if-not-d.false))
@@ -26,19 +23,10 @@ pub bounds-list-from : goal.bounds-list-from
 bounds-list-from c = omega (arith, c.entry_count-d.ensures.1.so (not-false _ c.if-not-d.false))
 
 pub overflow_add-used : goal.overflow_add-used
-overflow_add-used c = omega (arith, c.entry_count-d.ensures.1.so (not-false _ c.if-not-d.false), c.requires, c.loop-i.invariant.2, c.entry_rows-used.ensures.1)
-
-pub overflow_add-i : goal.overflow_add-i
-overflow_add-i c = omega arith
-
-pub loop-i-smaller : goal.loop-i-smaller
-loop-i-smaller c = omega arith
+overflow_add-used c = omega (arith, c.entry_count-d.ensures.1.so (not-false _ c.if-not-d.false), c.requires, c.loop-i.invariant.1, c.entry_rows-used.ensures.1)
 
 pub loop-i-preserved : goal.loop-i-preserved
-loop-i-preserved c = let g = c.entry_count-d.ensures.1.so (not-false _ c.if-not-d.false) in let t : length c.args.list ≡ 32 = search (rules, long) in (omega arith, c.application-q.auto.out ∙ c.loop-i.invariant.1, omega (arith, c.loop-i.invariant.2, c.entry_rows-used.ensures.1), turns_more _ _ _ _ t c.requires.0 g c.loop-i.invariant.3 refl c.entry_rows-used.ensures.0 c.loop-i-test.true c.application-q.ensures)
-
-pub shape_of-out : goal.shape_of-out
-shape_of-out c = c.loop-i.invariant.1 ∙ c.entry_count-d.auto.out
+loop-i-preserved c = let g = c.entry_count-d.ensures.1.so (not-false _ c.if-not-d.false) in let t : length c.args.list ≡ 32 = search (rules, long) in (c.application-q.auto.out ∙ c.loop-i.invariant.0, omega (arith, c.loop-i.invariant.1, c.entry_rows-used.ensures.1), turns_more _ _ _ _ t c.requires.0 g c.loop-i.invariant.2 refl c.entry_rows-used.ensures.0 c.loop-i-test.true c.application-q.ensures)
 
 pub returns : goal.returns
-returns c = let g = c.entry_count-d.ensures.1.so (not-false _ c.if-not-d.false) in let t : length c.args.list ≡ 32 = search (rules, long) in turns_all _ _ _ _ t c.requires.0 g c.loop-i.invariant.3 (omega arith) c.loop-i.invariant.2 c.entry_count-d.ensures.0
+returns c = let g = c.entry_count-d.ensures.1.so (not-false _ c.if-not-d.false) in let t : length c.args.list ≡ 32 = search (rules, long) in turns_all _ _ _ _ t c.requires.0 g c.loop-i.invariant.2 (omega arith) c.loop-i.invariant.1 c.entry_count-d.ensures.0

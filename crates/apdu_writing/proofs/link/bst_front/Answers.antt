@@ -1,7 +1,9 @@
 -- The choice with the leading part, the time and the profile.
 -- Assumes nothing.
+use Rattle.apdu_writing.proofs.Leads.{bit_is}
+use mathlib.Core.Path.{refl}
 use Rattle.apdu_writing.proofs.Links.{bst_front_law}
 use Rattle.apdu_writing.proofs.link.bst_front.Goals as goal
 
 pub returns : goal.returns
-returns c = bst_front_law c.args.m c.bit.ensures.0 c.small.ensures c.small-2.ensures c.put-d.ensures c.time-e.ensures c.number-quill.ensures
+returns c = bst_front_law c.args.m (bit_is _ c.from.ensures) refl refl c.put-d.ensures c.time-e.ensures c.number-quill.ensures

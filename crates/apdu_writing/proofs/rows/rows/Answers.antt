@@ -9,43 +9,19 @@ use Rattle.apdu.proofs.Tables.{long, part_length, part_place}
 use Rattle.apdu_writing.proofs.rows.rows.Goals as goal
 
 pub loop-i-init : goal.loop-i-init
-loop-i-init c = (omega arith, refl, run_none _ _ _ _ _)
-
-pub shape_of-out-then-finished : goal.shape_of-out-then-finished
-shape_of-out-then-finished c = c.loop-i.invariant.1
+loop-i-init c = (refl, run_none _ _ _ _ _)
 
 pub returns-then-finished : goal.returns-then-finished
-returns-then-finished c = let t : length c.args.table ≡ 32 = search (rules, long) in run_over _ _ c.loop-i.invariant.2 (part_in _ _ _ t c.clamped-n.ensures.0 c.loop-i-test.true) (eqb-true _ _ (sym c.finished.ensures ∙ c.if-finished.true)) c.halt.ensures
-
-pub overflow_add-w : goal.overflow_add-w
-overflow_add-w c = omega arith
-
-pub offset_bounds-table-first : goal.offset_bounds-table-first
-offset_bounds-table-first c = omega arith
-
-pub bounds-table-first : goal.bounds-table-first
-bounds-table-first c = omega arith
+returns-then-finished c = let t : length c.args.table ≡ 32 = search (rules, long) in run_over _ _ c.loop-i.invariant.1 (part_in _ _ _ t c.clamped-n.ensures.0 c.loop-i-test.true) (eqb-true _ _ (sym c.finished.ensures ∙ c.if-finished.true)) c.halt.ensures
 
 pub next_row-t-requires : goal.next_row-t-requires
 next_row-t-requires c = is_due _ c.finished.ensures c.if-finished.false
 
-pub overflow_add-i : goal.overflow_add-i
-overflow_add-i c = omega arith
-
-pub loop-i-smaller : goal.loop-i-smaller
-loop-i-smaller c = omega arith
-
 pub loop-i-preserved : goal.loop-i-preserved
-loop-i-preserved c = let a = c.args in let t : length a.table ≡ 32 = search (rules, long) in (omega arith, c.next_row-t.auto.out ∙ c.loop-i.invariant.1, run_more _ _ c.loop-i.invariant.2 (part_place empty_row a.table a.first a.count _ (part_length a.table a.first a.count t c.clamped-n.ensures.0) c.loop-i-test.true) (part_in _ _ _ t c.clamped-n.ensures.0 c.loop-i-test.true) (eqb-false _ _ (sym c.finished.ensures ∙ c.if-finished.false)) c.next_row-t.ensures)
-
-pub shape_of-out-then-finished-2 : goal.shape_of-out-then-finished-2
-shape_of-out-then-finished-2 c = c.loop-i.invariant.1
+loop-i-preserved c = let a = c.args in let t : length a.table ≡ 32 = search (rules, long) in (c.next_row-t.auto.out ∙ c.loop-i.invariant.0, run_more _ _ c.loop-i.invariant.1 (part_place empty_row a.table a.first a.count _ (part_length a.table a.first a.count t c.clamped-n.ensures.0) c.loop-i-test.true) (part_in _ _ _ t c.clamped-n.ensures.0 c.loop-i-test.true) (eqb-false _ _ (sym c.finished.ensures ∙ c.if-finished.false)) c.next_row-t.ensures)
 
 pub returns-then-finished-2 : goal.returns-then-finished-2
-returns-then-finished-2 c = let t : length c.args.table ≡ 32 = search (rules, long) in run_done _ _ c.loop-i.invariant.2 (part_end _ _ _ t c.clamped-n.ensures.0 c.loop-i.invariant.0 c.loop-i-test.false) (eqb-true _ _ (sym c.finished-2.ensures ∙ c.if-finished-2.true))
+returns-then-finished-2 c = let t : length c.args.table ≡ 32 = search (rules, long) in run_done _ _ c.loop-i.invariant.1 (part_end _ _ _ t c.clamped-n.ensures.0 (omega arith) c.loop-i-test.false) (eqb-true _ _ (sym c.finished-2.ensures ∙ c.if-finished-2.true))
 
-pub shape_of-out : goal.shape_of-out
-shape_of-out c = c.loop-i.invariant.1
-
-pub returns : goal.returns
-returns c = let t : length c.args.table ≡ 32 = search (rules, long) in run_short _ _ c.loop-i.invariant.2 (part_end _ _ _ t c.clamped-n.ensures.0 c.loop-i.invariant.0 c.loop-i-test.false) (eqb-false _ _ (sym c.finished-2.ensures ∙ c.if-finished-2.false)) c.halt-2.ensures
+pub returns-else-finished-2 : goal.returns-else-finished-2
+returns-else-finished-2 c = let t : length c.args.table ≡ 32 = search (rules, long) in run_short _ _ c.loop-i.invariant.1 (part_end _ _ _ t c.clamped-n.ensures.0 (omega arith) c.loop-i-test.false) (eqb-false _ _ (sym c.finished-2.ensures ∙ c.if-finished-2.false)) c.halt-else-finished-2.ensures

@@ -7,7 +7,4 @@ use Rattle.apdu_writing.proofs.RowLists.{Run}
 use Rattle.apdu_writing.proofs.rows.rows.Given as goal
 
 abbrev pub invariant-loop-i : goal.invariant-loop-i
-invariant-loop-i l = (l.i ≤ l.n) × (length l.out ≡ length l.initial.out) × Run l.lent (take l.count (drop l.first l.table)) l.i l.initial.u l.u l.initial.d l.d l.initial.out l.out
-
-abbrev pub decreases-loop-i : goal.decreases-loop-i
-decreases-loop-i l = l.n - l.i
+invariant-loop-i l = (length l.out ≡ length l.initial.out) × Run l.lent (take l.count (drop l.first l.table)) l.i l.initial.u l.u l.initial.d l.d l.initial.out l.out

@@ -1,14 +1,16 @@
--- Rows that are there keep the limit, or pass it; where there are none they keep it.
+-- The rows count where they are there.
 -- Assumes nothing.
 use native.Mathlib.Omega.{arith}
 use Rattle.apdu_writing.proofs.Chains.{limited_fits, limited_breaks}
+use Rattle.apdu_writing.proofs.rows.within.Goals.{else-p-via-then-p+else-rows-gt-MOST_ROWS, else-p-via-else-p}
 use Rattle.apdu_writing.proofs.rows.within.Goals as goal
 
 pub returns-then-rows-gt-MOST_ROWS : goal.returns-then-rows-gt-MOST_ROWS
 returns-then-rows-gt-MOST_ROWS c = rw c.if-p.true (limited_breaks _ c.if-rows-gt-MOST_ROWS.true c.halt.ensures)
 
-pub returns-else-rows-gt-MOST_ROWS : goal.returns-else-rows-gt-MOST_ROWS
-returns-else-rows-gt-MOST_ROWS c = rw c.if-p.true (limited_fits c.if-rows-gt-MOST_ROWS.false)
-
-pub returns-else-p : goal.returns-else-p
-returns-else-p c = rw c.if-p.false (limited_fits (omega arith))
+pub returns : goal.returns
+returns c =
+    elim c.else-p.branch [
+      | else-p-via-then-p+else-rows-gt-MOST_ROWS w ↦ rw w.if-p.true (limited_fits w.if-rows-gt-MOST_ROWS.false)
+      | else-p-via-else-p w ↦ rw w.if-p.false (limited_fits (omega arith))
+    ]

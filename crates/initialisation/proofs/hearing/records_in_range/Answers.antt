@@ -1,18 +1,29 @@
 -- Each record in turn.
 -- Assumes nothing.
 use Rattle.std.proofs.Common.{sym, ◌∙◌}
-use borrow.Author.Tests.{not-true, not-false}
+use Rattle.apdu_format.proofs.Tests.{never}
 use Rattle.initialisation.specs.Hearing.{records_in_range}
+use Rattle.initialisation.proofs.hearing.records_in_range.Goals.{then-link_in_range, else-link_in_range}
 use Rattle.initialisation.proofs.hearing.records_in_range.Goals as goal
 
-pub returns-then-not-link_in_range : goal.returns-then-not-link_in_range
+pub returns-then-well_formed : goal.returns-then-well_formed
 unfolding records_in_range
-returns-then-not-link_in_range c = rw (sym c.link_in_range.ensures ∙ not-true c.link_in_range.result c.if-not-link_in_range.true-raw)
+returns-then-well_formed c =
+    elim c.if-link_in_range.branch [
+      | then-link_in_range w ↦
+          let a = sym c.link_in_range.ensures ∙ w.if-link_in_range.true in
+          let b = sym w.well_formed-then-link_in_range.ensures ∙ sym w.value-is ∙ c.if-well_formed.true in
+          c.configuration_in_range.ensures ∙ sym (rw (a, b))
+      | else-link_in_range w ↦ never (sym w.if-link_in_range.false ∙ sym w.value-is ∙ c.if-well_formed.true)
+    ]
 
-pub returns-then-not-well_formed : goal.returns-then-not-well_formed
+pub returns-else-well_formed : goal.returns-else-well_formed
 unfolding records_in_range
-returns-then-not-well_formed c = rw (sym c.link_in_range.ensures ∙ not-false c.link_in_range.result c.if-not-link_in_range.false-raw, sym c.well_formed-2.ensures ∙ not-true c.well_formed-2.result c.if-not-well_formed.true-raw)
-
-pub returns : goal.returns
-unfolding records_in_range
-returns c = c.configuration_in_range.ensures ∙ sym (rw (sym c.link_in_range.ensures ∙ not-false c.link_in_range.result c.if-not-link_in_range.false-raw, sym c.well_formed-2.ensures ∙ not-false c.well_formed-2.result c.if-not-well_formed.false-raw))
+returns-else-well_formed c =
+    elim c.if-link_in_range.branch [
+      | then-link_in_range w ↦
+          let a = sym c.link_in_range.ensures ∙ w.if-link_in_range.true in
+          let b = sym w.well_formed-then-link_in_range.ensures ∙ sym w.value-is ∙ c.if-well_formed.false in
+          c.if-well_formed.false ∙ sym (rw (a, b))
+      | else-link_in_range w ↦ let a = sym c.link_in_range.ensures ∙ w.if-link_in_range.false in c.if-well_formed.false ∙ sym (rw a)
+    ]
