@@ -1,6 +1,6 @@
 -- Laws of the link calls: what the functions below answer, packed, is what the definitions give. Assumes nothing.
 use Prim.Native.Nat.{ℕ}
-use mathlib.Core.Path.{◌≡◌, ap, ◌∙◌}
+use mathlib.Core.Path.{◌≡◌, refl, ap, ◌∙◌}
 use mathlib.Core.List.{List}
 use Rattle.std.specs.Prelude.{Option, None, Result}
 use Rattle.refusals.specs.Check.{Answer}
@@ -40,6 +40,19 @@ heard_is words c {after = after} g e =
     let o = g.output_is in
     cc
 
+-- a message that is no BST brings none
+no_bst : (m : Message) → ((bst : Bst) → m ≡ kind.Bst bst → ⊥) → offer_of m ≡ None
+no_bst (kind.ActionRequest x) other = refl
+no_bst (kind.ActionResponse x) other = refl
+no_bst (kind.EventRequest x) other = refl
+no_bst (kind.EventResponse x) other = refl
+no_bst (kind.SetRequest x) other = refl
+no_bst (kind.SetResponse x) other = refl
+no_bst (kind.GetRequest x) other = refl
+no_bst (kind.GetResponse x) other = refl
+no_bst (kind.Bst bst) other = absurd (other bst refl)
+no_bst (kind.Vst x) other = refl
+
 module _ (b : Brought) (s : List ℕ) (g : Reading) (e : Reads s g) where
   by_reading_law : {r : ℕ} {words' out' : List ℕ} → effect r words' out' ≡ read_effect b s g.lists g.answer → BstEffect b s r words' out'
   by_reading_law i = record { reading = g; reads = e; is = i }
@@ -48,11 +61,12 @@ module _ (b : Brought) (s : List ℕ) (g : Reading) (e : Reads s g) where
   unfolding read_effect
   bst_refused k p a q = by_reading_law (rw a (ap (λ (n : ℕ). effect n b.words b.out) q))
 
-  pub bst_other : (m : Message) {r : ℕ} → g.answer ≡ answer.Message m → offer_of m ≡ None → r ≡ refusal_number 23 → BstEffect b s r b.words b.out
+  pub bst_other : (m : Message) {r : ℕ} → g.answer ≡ answer.Message m → ((bst : Bst) → m ≡ kind.Bst bst → ⊥) → r ≡ refusal_number 23
+      → BstEffect b s r b.words b.out
   unfolding read_effect offered_effect
-  bst_other m a n q = by_reading_law (rw (a, n) (ap (λ (n : ℕ). effect n b.words b.out) q))
+  bst_other m a n q = by_reading_law (rw (a, no_bst m n) (ap (λ (n : ℕ). effect n b.words b.out) q))
 
-  pub bst_heard : (bst : Bst) {r : ℕ} {words' out' : List ℕ} → g.answer ≡ answer.Message (kind.Bst bst)
+  pub bst_heard : (m : Message) (bst : Bst) {r : ℕ} {words' out' : List ℕ} → g.answer ≡ answer.Message m → m ≡ kind.Bst bst
       → effect r words' out' ≡ heard_effect b.words (call_of b s g.lists bst) → BstEffect b s r words' out'
   unfolding read_effect offered_effect
-  bst_heard bst a q = by_reading_law (rw a q)
+  bst_heard m bst a n q = by_reading_law (rw (a, n) q)

@@ -117,25 +117,27 @@ pub extern "C" fn semuryeon_link_bst(
     let reading = apdu_reading::read(s);
     match reading.answer {
         Answer::Refused(number, position) => packed(number, 0, position, 0),
-        Answer::Message(Message::Bst(bst)) => {
-            let configuration = Configuration {
-                class: u64::from(class),
-                maker: u64::from(maker),
-                status: u64::from(status),
-            };
-            hear(
-                s,
-                bst,
-                reading.lists,
-                tick,
-                lid,
-                link,
-                elements,
-                marks,
-                configuration,
-                out,
-            )
-        }
-        Answer::Message(_) => refused(Refusal::RecordOutOfRange),
+        Answer::Message(message) => match message {
+            Message::Bst(bst) => {
+                let configuration = Configuration {
+                    class: u64::from(class),
+                    maker: u64::from(maker),
+                    status: u64::from(status),
+                };
+                hear(
+                    s,
+                    bst,
+                    reading.lists,
+                    tick,
+                    lid,
+                    link,
+                    elements,
+                    marks,
+                    configuration,
+                    out,
+                )
+            }
+            _ => refused(Refusal::RecordOutOfRange),
+        },
     }
 }

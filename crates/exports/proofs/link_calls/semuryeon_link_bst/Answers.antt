@@ -11,16 +11,16 @@ returns-in-Refused c = record {
   kept = kept_heard;
 }
 
-pub returns-in-Message-Bst : goal.returns-in-Message-Bst
-returns-in-Message-Bst c = record {
-  answer = bst_heard _ _ _ c.read-reading.ensures.answer _ c.in-Message-Bst.is c.hear.ensures;
+pub returns-in-Bst : goal.returns-in-Bst
+returns-in-Bst c = record {
+  answer = bst_heard _ _ _ c.read-reading.ensures.answer _ _ c.in-Message.is c.in-Bst.is c.hear.ensures;
   unpacking = unpacking_bst;
   kept = kept_heard;
 }
 
-pub returns-in-Message : goal.returns-in-Message
-returns-in-Message c = record {
-  answer = bst_other _ _ _ c.read-reading.ensures.answer _ c.in-Message.is ? c.refused.ensures;
+pub returns-in_default : goal.returns-in_default
+returns-in_default c = record {
+  answer = bst_other _ _ _ c.read-reading.ensures.answer _ c.in-Message.is c.in_default.not-Bst c.refused.ensures;
   unpacking = unpacking_bst;
   kept = kept_heard;
 }
