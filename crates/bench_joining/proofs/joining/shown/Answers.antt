@@ -14,13 +14,14 @@ pub returns : goal.returns
 returns c =
     let s = c.args.lsdu.now in
     elim c.match-read.branch [
-      in-Ok w ↦
-        let f = fields_are s _ _ w.in-Ok.ensures.answer in
-        let n : c.match-read.number.0 ≡ (fragment_in s).number = ap (λ (p : ℕ × ℕ). p.0) w.number-is ∙ (λ i. (f i).number) in
-        let o : c.match-read.number.1 ≡ (fragment_in s).octets = ap (λ (p : ℕ × ℕ). p.1) w.number-is ∙ (λ i. (f i).octets) in
-        shown_is _ _ _ _ n o c.held_for-held.ensures c.columns.ensures
-    | in-Err w ↦
-        let f = fields_none s _ w.in-Err.ensures.answer in
-        let n : c.match-read.number.0 ≡ (fragment_in s).number = ap (λ (p : ℕ × ℕ). p.0) w.number-is ∙ (λ i. (f i).number) in
-        let o : c.match-read.number.1 ≡ (fragment_in s).octets = ap (λ (p : ℕ × ℕ). p.1) w.number-is ∙ (λ i. (f i).octets) in
-        shown_is _ _ _ _ n o c.held_for-held.ensures c.columns.ensures ]
+      | in-Ok w ↦
+          let f = fields_are s _ _ w.in-Ok.ensures.answer in
+          let n : c.match-read.number.0 ≡ (fragment_in s).number = ap (λ (p : ℕ × ℕ). p.0) w.number-is ∙ (λ i. (f i).number) in
+          let o : c.match-read.number.1 ≡ (fragment_in s).octets = ap (λ (p : ℕ × ℕ). p.1) w.number-is ∙ (λ i. (f i).octets) in
+          shown_is _ _ _ _ n o c.held_for-held.ensures c.columns.ensures
+      | in-Err w ↦
+          let f = fields_none s _ w.in-Err.ensures.answer in
+          let n : c.match-read.number.0 ≡ (fragment_in s).number = ap (λ (p : ℕ × ℕ). p.0) w.number-is ∙ (λ i. (f i).number) in
+          let o : c.match-read.number.1 ≡ (fragment_in s).octets = ap (λ (p : ℕ × ℕ). p.1) w.number-is ∙ (λ i. (f i).octets) in
+          shown_is _ _ _ _ n o c.held_for-held.ensures c.columns.ensures
+    ]
