@@ -60,67 +60,16 @@ pub record EndRead (s : List ℕ) (f : LinkFront) (mandatory others : ℕ) (c : 
 -- ---- services: a message up to its rows, and the message once they and the number behind them are read
 
 abbrev pub request_closed : Request → ℕ → ℕ → Request
-request_closed m rows iid =
-    record {
-      mode = m.mode;
-      eid = m.eid;
-      service = m.service;
-      has_credentials = m.has_credentials;
-      credentials = m.credentials;
-      credentials_length = m.credentials_length;
-      has_parameter = m.has_parameter;
-      kind = m.kind;
-      n = m.n;
-      start = m.start;
-      rows = rows;
-      has_iid = m.has_iid;
-      iid = iid;
-    }
+request_closed m rows iid = record m { rows = rows; iid = iid }
 
 abbrev pub action_response_closed : ActionResponse → ℕ → ℕ → ActionResponse
-action_response_closed m rows ret =
-    record {
-      fill = m.fill;
-      eid = m.eid;
-      has_iid = m.has_iid;
-      iid = m.iid;
-      has_parameter = m.has_parameter;
-      kind = m.kind;
-      n = m.n;
-      start = m.start;
-      rows = rows;
-      has_ret = m.has_ret;
-      ret = ret;
-    }
+action_response_closed m rows ret = record m { rows = rows; ret = ret }
 
 abbrev pub set_request_closed : SetRequest → ℕ → ℕ → SetRequest
-set_request_closed m rows iid =
-    record {
-      fill = m.fill;
-      mode = m.mode;
-      eid = m.eid;
-      has_credentials = m.has_credentials;
-      credentials = m.credentials;
-      credentials_length = m.credentials_length;
-      count = m.count;
-      rows = rows;
-      has_iid = m.has_iid;
-      iid = iid;
-    }
+set_request_closed m rows iid = record m { rows = rows; iid = iid }
 
 abbrev pub get_response_closed : GetResponse → ℕ → ℕ → GetResponse
-get_response_closed m rows ret =
-    record {
-      fill = m.fill;
-      eid = m.eid;
-      has_iid = m.has_iid;
-      iid = m.iid;
-      has_attributes = m.has_attributes;
-      count = m.count;
-      rows = rows;
-      has_ret = m.has_ret;
-      ret = ret;
-    }
+get_response_closed m rows ret = record m { rows = rows; ret = ret }
 
 unfoldable pub closed_by : Message → ℕ → ℕ → Message
 closed_by (kind.ActionRequest m) rows last = kind.ActionRequest (request_closed m rows last)

@@ -2,19 +2,19 @@
 ghost use Rattle.std.specs.Prelude.{◌≡◌, ◌≤◌, length};
 ghost use Rattle.apdu_reading.specs.Applications.{EntryOpens, Open, EntryWhole, CountMaybe};
 ghost use Rattle.apdu_reading.specs.Messages.{FrontRead};
-ghost use Rattle.apdu_reading.specs.Answers.{no_lists, Reads};
+ghost use Rattle.apdu_reading.specs.Answers.{Reads};
 
 use crate::component::{count, entry_octet};
 use crate::container::place;
 use crate::cursor::{Cursor, marked};
-use crate::front::{Reading, answer_of, ended, place_of};
+use crate::front::{Reading, answer_of, cleared, ended, place_of};
 use crate::link::{LinkFront, link_end};
 use crate::optional::{container_if, integer_if};
 use crate::rows::{Rows, fill};
-use apdu::{Due, Entry, Lists, announces, no_entries, no_rows};
+use apdu::{Due, Entry, announces};
 
 // An entry up to its rows, of which `due` are announced.
-#[derive(Clone, Copy)]
+#[derive(Clone, Copy, Debug, PartialEq, Eq)]
 pub struct EntryHead {
     pub cursor: Cursor,
     pub entry: Entry,
@@ -30,8 +30,6 @@ pub(crate) fn entry_head(s: &[u8], c: Cursor) -> EntryHead
     let has_parameter = octet.value / 64 % 2 == 1;
     let eid = integer_if(s, has_eid, octet);
     let h = container_if(s, has_parameter, eid);
-    let due = announces(h.kind, h.n);
-    let cursor = h.cursor;
     let entry = Entry {
         has_eid,
         has_parameter,
@@ -42,10 +40,14 @@ pub(crate) fn entry_head(s: &[u8], c: Cursor) -> EntryHead
         start: place(h.start),
         rows: 0,
     };
-    EntryHead { cursor, entry, due }
+    EntryHead {
+        cursor: h.cursor,
+        entry,
+        due: announces(h.kind, h.n),
+    }
 }
 
-#[derive(Clone, Copy)]
+#[derive(Clone, Copy, Debug, PartialEq, Eq)]
 pub struct EntryRead {
     pub entry: Entry,
     pub rows: Rows,
@@ -56,34 +58,21 @@ pub(crate) fn with_rows(s: &[u8], h: EntryHead, r: Rows) -> EntryRead
     requires { (length s.now ≤ 512) × Open r × EntryOpens s.now r.cursor h × (1 ≤ h.due) }
     ensures { EntryWhole s.now r result }
 {
-    let before = r.used;
-    let cursor = h.cursor;
-    let stored = r.rows;
+    let due = Due {
+        d2: h.due,
+        ..Due::default()
+    };
     let rows = fill(
         s,
-        Due {
-            d1: 0,
-            d2: h.due,
-            d3: 0,
-            d4: 0,
-            d5: 0,
-        },
+        due,
         Rows {
-            cursor,
-            used: before,
-            rows: stored,
+            cursor: h.cursor,
+            ..r
         },
     );
-    let e = h.entry;
     let entry = Entry {
-        has_eid: e.has_eid,
-        has_parameter: e.has_parameter,
-        aid: e.aid,
-        eid: e.eid,
-        kind: e.kind,
-        n: e.n,
-        start: e.start,
-        rows: (rows.used - before) as u8,
+        rows: (rows.used - r.used) as u8,
+        ..h.entry
     };
     EntryRead { entry, rows }
 }
@@ -93,19 +82,7 @@ pub(crate) fn count_if(s: &[u8], p: bool, c: Cursor) -> Cursor
     requires { length s.now ≤ 512 }
     ensures { CountMaybe s.now p c result }
 {
-    if p {
-        return count(s, c);
-    }
-    marked(c, 0, 0)
-}
-
-// The lists beside a refusal.
-fn cleared() -> Lists
-    ensures { result ≡ no_lists }
-{
-    let entries = no_entries();
-    let rows = no_rows();
-    Lists { entries, rows }
+    if p { count(s, c) } else { marked(c, 0, 0) }
 }
 
 // A message from its application lists on: a list, and behind it a second one if it is there. In a round `others` counts the list that is read, `mandatory`
@@ -117,45 +94,37 @@ pub(crate) fn application_lists(s: &[u8], f: LinkFront) -> Reading
 {
     let mut cursor = f.cursor;
     let mut used: u64 = 0;
-    let entries = no_entries();
-    let rows = no_rows();
-    let mut lists = Lists { entries, rows };
+    let mut lists = cleared();
     let mut mandatory: u64 = 0;
     let mut others: u64 = 0;
-    let mut round: u64 = 0;
-    while round < 2 {
-        cursor = count_if(s, (round == 0) | f.has_others, cursor);
+    for round in 0..2u64 {
+        cursor = count_if(s, round == 0 || f.has_others, cursor);
         mandatory += others;
         others = cursor.value;
-        round += 1;
-        let mut i: u64 = 0;
-        while i < others {
+        for i in 0..others {
             let h = entry_head(s, cursor);
             let place = (mandatory + i) as usize;
-            i += 1;
             if h.due == 0 {
-                let entry = h.entry;
                 cursor = h.cursor;
-                lists.entries[place] = entry;
+                lists.entries[place] = h.entry;
             } else {
                 let rows = lists.rows;
                 let t = with_rows(s, h, Rows { cursor, used, rows });
-                let entry = t.entry;
-                let stored = t.rows.rows;
                 cursor = t.rows.cursor;
                 used = t.rows.used;
-                lists.rows = stored;
-                lists.entries[place] = entry;
+                lists.rows = t.rows.rows;
+                lists.entries[place] = t.entry;
             }
         }
     }
     let e = link_end(s, f, mandatory, others, cursor);
     let end = ended(s, e.cursor);
-    let message = e.message;
     if end.fault != 0 {
         lists = cleared();
     }
-    let answer = answer_of(end, message);
-    let end = place_of(end);
-    Reading { answer, end, lists }
+    Reading {
+        answer: answer_of(end, e.message),
+        end: place_of(end),
+        lists,
+    }
 }

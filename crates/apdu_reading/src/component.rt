@@ -45,7 +45,7 @@ pub(crate) fn row_count(s: &[u8], depth: usize, c: Cursor) -> Cursor
     ensures { (result ≡ component s.now (row_count depth) c) × (result.value < 128) }
 {
     let d = integer(s, c);
-    let many = (apdu::MOST_COUNTED < d.value) | (c.room < d.value);
+    let many = apdu::MOST_COUNTED < d.value || c.room < d.value;
     spend(judged(c, refusals::COUNT_TOO_LARGE, many, d))
 }
 
@@ -86,10 +86,8 @@ pub(crate) fn id_list(s: &[u8], c: Cursor) -> Cursor
     let d = count(s, c);
     let n = d.value;
     let mut e = d;
-    let mut i: u64 = 0;
-    while i < n {
+    for _ in 0..n {
         e = integer(s, e);
-        i += 1;
     }
     marked(e, n, d.at)
 }

@@ -1,19 +1,33 @@
 // Containers up to their attribute rows, and the next row.
 ghost use Rattle.std.specs.Prelude.{◌≡◌, ◌%◌, ◌<◌, ◌≤◌, length};
 ghost use Rattle.apdu.specs.RowCounters.{total};
-ghost use Rattle.apdu_reading.specs.Rows.{Opens, Next};
+ghost use Rattle.apdu_reading.specs.Rows.{head_of, Opens, Next};
 
 use crate::component::{id_list, integer, kind, row_count, string};
 use crate::cursor::Cursor;
 use apdu::{Due, Row, after_row, announces, level};
 
 // A container without its rows: its kind, its length, number or count, and where its octets or ids start.
-#[derive(Clone, Copy)]
+#[derive(Clone, Copy, Debug, Default, PartialEq, Eq)]
 pub struct Head {
     pub kind: u64,
     pub n: u64,
     pub start: usize,
     pub cursor: Cursor,
+}
+
+impl Head {
+    // The container of a kind whose content ends at a cursor.
+    fn of(kind: u64, cursor: Cursor) -> Head
+        ensures { result ≡ head_of kind cursor }
+    {
+        Head {
+            kind,
+            n: cursor.value,
+            start: cursor.start,
+            cursor,
+        }
+    }
 }
 
 pub(crate) fn container(s: &[u8], depth: usize, c: Cursor) -> Head
@@ -23,45 +37,15 @@ pub(crate) fn container(s: &[u8], depth: usize, c: Cursor) -> Head
     let k = kind(s, depth, c);
     if k.fault != 0 {
         return Head {
-            kind: 0,
-            n: 0,
-            start: 0,
             cursor: k,
+            ..Head::default()
         };
     }
-    if k.value == apdu::OCTET_STRING {
-        let d = string(s, k);
-        return Head {
-            kind: apdu::OCTET_STRING,
-            n: d.value,
-            start: d.start,
-            cursor: d,
-        };
-    }
-    if k.value == apdu::DSRC_EID {
-        let d = integer(s, k);
-        return Head {
-            kind: apdu::DSRC_EID,
-            n: d.value,
-            start: 0,
-            cursor: d,
-        };
-    }
-    if k.value == apdu::ATTRIBUTE_ID_LIST {
-        let d = id_list(s, k);
-        return Head {
-            kind: apdu::ATTRIBUTE_ID_LIST,
-            n: d.value,
-            start: d.start,
-            cursor: d,
-        };
-    }
-    let d = row_count(s, depth + 1, k);
-    Head {
-        kind: apdu::ATTRIBUTE_LIST,
-        n: d.value,
-        start: 0,
-        cursor: d,
+    match k.value {
+        apdu::OCTET_STRING => Head::of(apdu::OCTET_STRING, string(s, k)),
+        apdu::DSRC_EID => Head::of(apdu::DSRC_EID, integer(s, k)),
+        apdu::ATTRIBUTE_ID_LIST => Head::of(apdu::ATTRIBUTE_ID_LIST, id_list(s, k)),
+        _ => Head::of(apdu::ATTRIBUTE_LIST, row_count(s, depth + 1, k)),
     }
 }
 
@@ -72,7 +56,7 @@ pub(crate) fn place(start: usize) -> u32
     (start % 4294967296) as u32
 }
 
-#[derive(Clone, Copy)]
+#[derive(Clone, Copy, Debug, PartialEq, Eq)]
 pub struct RowRead {
     pub cursor: Cursor,
     pub due: Due,
@@ -86,13 +70,14 @@ pub(crate) fn next_row(s: &[u8], c: Cursor, o: Due) -> RowRead
 {
     let d = integer(s, c);
     let h = container(s, level(o), d);
-    let due = after_row(o, announces(h.kind, h.n));
-    let cursor = h.cursor;
-    let row = Row {
-        id: d.value as u8,
-        kind: h.kind as u8,
-        n: h.n as u16,
-        start: place(h.start),
-    };
-    RowRead { cursor, due, row }
+    RowRead {
+        cursor: h.cursor,
+        due: after_row(o, announces(h.kind, h.n)),
+        row: Row {
+            id: d.value as u8,
+            kind: h.kind as u8,
+            n: h.n as u16,
+            start: place(h.start),
+        },
+    }
 }

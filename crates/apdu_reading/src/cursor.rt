@@ -5,7 +5,7 @@ ghost use Rattle.apdu_reading.specs.Cursor.{cursor, judged_by, piece_of, spent, 
 // at: the next bit; begun: where the component begins that was read last; room: how many attribute rows may still be announced; fault: 0, or the
 // refusal's number, with its position; value: what the bits read last say; start: where the string or list read last starts.
 // In this order no two neighbours are only copied: two that are get copied as one block, which waits for both to be stored.
-#[derive(Clone, Copy)]
+#[derive(Clone, Copy, Debug, Default, PartialEq, Eq)]
 pub struct Cursor {
     pub at: usize,
     pub value: u64,
@@ -17,17 +17,15 @@ pub struct Cursor {
 }
 
 // The cursor with a fault: nothing is said behind it.
-fn faulty(c: Cursor, number: u8, position: usize) -> Cursor
+pub(crate) fn faulty(c: Cursor, number: u8, position: usize) -> Cursor
     ensures { result ≡ cursor c.at c.begun c.room number position 0 0 }
 {
     Cursor {
-        at: c.at,
-        begun: c.begun,
-        room: c.room,
         fault: number,
         position,
         value: 0,
         start: 0,
+        ..c
     }
 }
 
@@ -35,13 +33,11 @@ fn faulty(c: Cursor, number: u8, position: usize) -> Cursor
 pub(crate) fn judged(c: Cursor, number: u8, wrong: bool, d: Cursor) -> Cursor
     ensures { result ≡ judged_by c number wrong d }
 {
-    if d.fault != 0 {
-        return d;
+    if d.fault == 0 && wrong {
+        faulty(c, number, d.begun / 8)
+    } else {
+        d
     }
-    if wrong {
-        return faulty(c, number, d.begun / 8);
-    }
-    d
 }
 
 // The cursor behind `width` bits that say `value`, of a component that begins at `begun`.
@@ -53,10 +49,8 @@ fn moved(c: Cursor, width: usize, begun: usize, value: u64) -> Cursor
         at: c.at + width,
         begun,
         room: c.room,
-        fault: 0,
-        position: 0,
         value,
-        start: 0,
+        ..Cursor::default()
     }
 }
 
@@ -70,17 +64,11 @@ pub(crate) fn piece(s: &[u8], width: usize, begins: bool, c: Cursor) -> Cursor
     if c.fault != 0 {
         return faulty(c, c.fault, c.position);
     }
-    if end < at {
+    if end < at || end - at < width {
         return faulty(c, refusals::CUT_SHORT, s.len());
     }
-    if end - at < width {
-        return faulty(c, refusals::CUT_SHORT, s.len());
-    }
-    let value = bits::read_field(s, at, width);
-    if begins {
-        return moved(c, width, at, value);
-    }
-    moved(c, width, c.begun, value)
+    let begun = if begins { at } else { c.begun };
+    moved(c, width, begun, bits::read_field(s, at, width))
 }
 
 // The cursor behind the next eight bits, of a component that begins here: they lie in one octet or in two.
@@ -99,9 +87,9 @@ pub(crate) fn whole(s: &[u8], c: Cursor) -> Cursor
         return faulty(c, refusals::CUT_SHORT, s.len());
     }
     if skip == 0 {
-        return moved(c, 8, at, s[i] as u64);
+        return moved(c, 8, at, u64::from(s[i]));
     }
-    let two = (s[i] as u64) * 256 + (s[i + 1] as u64);
+    let two = u64::from(s[i]) * 256 + u64::from(s[i + 1]);
     moved(c, 8, at, (two >> (8 - skip)) % 256)
 }
 
@@ -109,20 +97,12 @@ pub(crate) fn whole(s: &[u8], c: Cursor) -> Cursor
 pub(crate) fn spend(c: Cursor) -> Cursor
     ensures { result ≡ spent c }
 {
-    if c.fault != 0 {
-        return c;
-    }
-    if c.room < c.value {
+    if c.fault != 0 || c.room < c.value {
         return c;
     }
     Cursor {
-        at: c.at,
-        begun: c.begun,
         room: c.room - c.value,
-        fault: 0,
-        position: c.position,
-        value: c.value,
-        start: c.start,
+        ..c
     }
 }
 
@@ -130,15 +110,7 @@ pub(crate) fn spend(c: Cursor) -> Cursor
 pub(crate) fn marked(c: Cursor, value: u64, start: usize) -> Cursor
     ensures { result ≡ marked_at c value start }
 {
-    Cursor {
-        at: c.at,
-        begun: c.begun,
-        room: c.room,
-        fault: c.fault,
-        position: c.position,
-        value,
-        start,
-    }
+    Cursor { value, start, ..c }
 }
 
 // The cursor behind the octets of a string, of which its value says how many: they start here, and none is read. 13 if they are not all there.

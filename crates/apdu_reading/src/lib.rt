@@ -16,11 +16,11 @@ mod optional;
 mod rows;
 mod services;
 
-use apdu::{Due, Lists, no_entries, no_rows};
+use apdu::Due;
 use closing::closed;
 use container::next_row;
 pub use front::{Answer, Reading};
-use front::{chosen, ended, refused};
+use front::{chosen, cleared, ended, refused};
 use link::link;
 use optional::integer_if;
 use rows::wants;
@@ -43,39 +43,31 @@ pub fn read(s: &[u8]) -> Reading
     if 8 <= c.value {
         return link(s, c);
     }
-    let entries = no_entries();
-    let rows = no_rows();
-    let mut lists = Lists { entries, rows };
+    let mut lists = cleared();
     let o = opening(s, c);
-    let last = o.last;
-    let message = o.message;
     let mut cursor = o.cursor;
     let mut due = Due {
         d1: o.d1,
         d2: o.d2,
-        d3: 0,
-        d4: 0,
-        d5: 0,
+        ..Due::default()
     };
     let mut used: u64 = 0;
     while wants(cursor, used) {
         let t = next_row(s, cursor, due);
-        let row = t.row;
         cursor = t.cursor;
         due = t.due;
         if cursor.fault == 0 {
-            lists.rows[used as usize] = row;
+            lists.rows[used as usize] = t.row;
             used += 1;
         }
     }
-    let number = integer_if(s, last, cursor);
+    let number = integer_if(s, o.last, cursor);
     let end = ended(s, number);
     if end.fault != 0 {
         return refused(end.fault, end.position);
     }
-    let m = closed(message, used as usize, number.value);
     Reading {
-        answer: Answer::Message(m),
+        answer: Answer::Message(closed(o.message, used as usize, number.value)),
         end: end.at,
         lists,
     }

@@ -12,7 +12,7 @@ use crate::services::flag;
 use apdu::{Bst, Message, Vst};
 
 // A BST or VST up to its application lists. What its kind does not have is 0, and a VST has no second list.
-#[derive(Clone, Copy)]
+#[derive(Clone, Copy, Debug, Default, PartialEq, Eq)]
 pub struct LinkFront {
     pub cursor: Cursor,
     pub choice: u64,
@@ -35,33 +35,31 @@ pub(crate) fn link_front(s: &[u8], c: Cursor) -> LinkFront
         let individual = bits::read_field(s, 21, 27);
         let time = piece(s, 32, true, lead);
         let profile = integer(s, time);
-        return LinkFront {
+        LinkFront {
             cursor: profile,
             choice: 8,
             has_others,
-            fill: 0,
             manufacturer,
             individual,
             time: time.value,
             profile: profile.value,
-        };
-    }
-    let lead = piece(s, 4, false, c);
-    let fill = bits::read_field(s, 4, 4);
-    let profile = integer(s, lead);
-    LinkFront {
-        cursor: profile,
-        choice: 9,
-        has_others: false,
-        fill,
-        manufacturer: 0,
-        individual: 0,
-        time: 0,
-        profile: profile.value,
+            ..LinkFront::default()
+        }
+    } else {
+        let lead = piece(s, 4, false, c);
+        let fill = bits::read_field(s, 4, 4);
+        let profile = integer(s, lead);
+        LinkFront {
+            cursor: profile,
+            choice: 9,
+            fill,
+            profile: profile.value,
+            ..LinkFront::default()
+        }
     }
 }
 
-#[derive(Clone, Copy)]
+#[derive(Clone, Copy, Debug, PartialEq, Eq)]
 pub struct Configuration {
     pub cursor: Cursor,
     pub class: u64,
@@ -78,27 +76,27 @@ pub(crate) fn configured(s: &[u8], c: Cursor) -> Configuration
     let class = piece(s, 16, true, c);
     let has_status = class.value / 32768 == 1;
     let maker = piece(s, 16, true, class);
-    if has_status {
-        let status = piece(s, 16, true, maker);
-        return Configuration {
-            cursor: status,
-            class: class.value % 32768,
-            maker: maker.value,
-            has_status,
-            status: status.value,
-        };
-    }
-    Configuration {
+    let without = Configuration {
         cursor: maker,
         class: class.value % 32768,
         maker: maker.value,
         has_status,
         status: 0,
+    };
+    if has_status {
+        let status = piece(s, 16, true, maker);
+        Configuration {
+            cursor: status,
+            status: status.value,
+            ..without
+        }
+    } else {
+        without
     }
 }
 
 // The message, and the cursor behind it.
-#[derive(Clone, Copy)]
+#[derive(Clone, Copy, Debug, PartialEq, Eq)]
 pub struct LinkEnd {
     pub cursor: Cursor,
     pub message: Message,
@@ -122,25 +120,25 @@ pub(crate) fn link_end(s: &[u8], f: LinkFront, mandatory: u64, others: u64, c: C
             profiles: profiles.start,
             profile_count: profiles.value,
         };
-        return LinkEnd {
+        LinkEnd {
             cursor: profiles,
             message: Message::Bst(message),
+        }
+    } else {
+        let held = configured(s, c);
+        let message = Vst {
+            fill: f.fill,
+            profile: f.profile,
+            applications: mandatory,
+            class: held.class,
+            maker: held.maker,
+            has_status: held.has_status,
+            status: held.status,
         };
-    }
-    let held = configured(s, c);
-    let cursor = held.cursor;
-    let message = Vst {
-        fill: f.fill,
-        profile: f.profile,
-        applications: mandatory,
-        class: held.class,
-        maker: held.maker,
-        has_status: held.has_status,
-        status: held.status,
-    };
-    LinkEnd {
-        cursor,
-        message: Message::Vst(message),
+        LinkEnd {
+            cursor: held.cursor,
+            message: Message::Vst(message),
+        }
     }
 }
 
@@ -149,6 +147,5 @@ pub(crate) fn link(s: &[u8], c: Cursor) -> Reading
     requires { (length s.now ≤ 512) × Chosen s.now c × (8 ≤ c.value) }
     ensures { Reads s.now result }
 {
-    let f = link_front(s, c);
-    application_lists(s, f)
+    application_lists(s, link_front(s, c))
 }

@@ -13,30 +13,21 @@ pub(crate) fn integer_if(s: &[u8], p: bool, c: Cursor) -> Cursor
     requires { length s.now ≤ 512 }
     ensures { Maybe s.now p (integer ∷ []) c result (num_if p result.value) }
 {
-    if p {
-        return integer(s, c);
-    }
-    marked(c, 0, 0)
+    if p { integer(s, c) } else { marked(c, 0, 0) }
 }
 
 pub(crate) fn string_if(s: &[u8], p: bool, c: Cursor) -> Cursor
     requires { length s.now ≤ 512 }
     ensures { Maybe s.now p (string_form ∷ []) c result (if p (str s.now result.start result.value)) × Inside s.now p result }
 {
-    if p {
-        return string(s, c);
-    }
-    marked(c, 0, 0)
+    if p { string(s, c) } else { marked(c, 0, 0) }
 }
 
 pub(crate) fn id_list_if(s: &[u8], p: bool, c: Cursor) -> Cursor
     requires { length s.now ≤ 512 }
     ensures { Maybe s.now p (id_count ∷ []) c result (if p (id_list s.now result.start result.value)) × Inside s.now p result }
 {
-    if p {
-        return id_list(s, c);
-    }
-    marked(c, 0, 0)
+    if p { id_list(s, c) } else { marked(c, 0, 0) }
 }
 
 // A container at depth 1 up to its rows.
@@ -45,13 +36,12 @@ pub(crate) fn container_if(s: &[u8], p: bool, c: Cursor) -> Head
     ensures { HeadMaybe s.now p c result }
 {
     if p {
-        return container(s, 1, c);
-    }
-    Head {
-        kind: 0,
-        n: 0,
-        start: 0,
-        cursor: c,
+        container(s, 1, c)
+    } else {
+        Head {
+            cursor: c,
+            ..Head::default()
+        }
     }
 }
 
@@ -61,7 +51,8 @@ pub(crate) fn attributes_if(s: &[u8], p: bool, c: Cursor) -> Cursor
     ensures { AttributesMaybe s.now p c result }
 {
     if p {
-        return row_count(s, 1, c);
+        row_count(s, 1, c)
+    } else {
+        marked(c, 0, 0)
     }
-    marked(c, 0, 0)
 }

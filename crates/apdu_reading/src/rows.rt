@@ -8,7 +8,7 @@ use crate::cursor::Cursor;
 use apdu::{Due, Row};
 
 // The rows read so far: the first `used`; the others are empty.
-#[derive(Clone, Copy)]
+#[derive(Clone, Copy, Debug, PartialEq, Eq)]
 pub struct Rows {
     pub cursor: Cursor,
     pub used: u64,
@@ -19,13 +19,7 @@ pub struct Rows {
 pub(crate) fn wants(c: Cursor, used: u64) -> bool
     ensures { result ≡ pick (eqb c.fault 0) (ltb used (32 - c.room)) false }
 {
-    if c.fault != 0 {
-        return false;
-    }
-    if apdu::MOST_ROWS < c.room {
-        return false;
-    }
-    used < apdu::MOST_ROWS - c.room
+    c.fault == 0 && used < apdu::MOST_ROWS.saturating_sub(c.room)
 }
 
 // All rows that are due, behind those that are read.
@@ -39,11 +33,10 @@ pub(crate) fn fill(s: &[u8], o: Due, r: Rows) -> Rows
     let mut rows = r.rows;
     while wants(cursor, used) {
         let t = next_row(s, cursor, due);
-        let row = t.row;
         cursor = t.cursor;
         due = t.due;
         if cursor.fault == 0 {
-            rows[used as usize] = row;
+            rows[used as usize] = t.row;
             used += 1;
         }
     }

@@ -20,7 +20,7 @@ pub(crate) fn flag(s: &[u8], at: usize) -> bool
 }
 
 // A message up to its rows: how many are due at depth 1 and 2, whether a number follows them, and the message with its rows and that number 0.
-#[derive(Clone, Copy)]
+#[derive(Clone, Copy, Debug, PartialEq, Eq)]
 pub struct Opened {
     pub cursor: Cursor,
     pub d1: u64,
@@ -60,21 +60,16 @@ pub(crate) fn request(s: &[u8], c: Cursor) -> Opened
         has_iid,
         iid: 0,
     };
-    if c.value == 2 {
-        return Opened {
-            cursor,
-            d1: 0,
-            d2,
-            last: has_iid,
-            message: Message::EventRequest(message),
-        };
-    }
     Opened {
         cursor,
         d1: 0,
         d2,
         last: has_iid,
-        message: Message::ActionRequest(message),
+        message: if c.value == 2 {
+            Message::EventRequest(message)
+        } else {
+            Message::ActionRequest(message)
+        },
     }
 }
 
@@ -134,21 +129,16 @@ pub(crate) fn response(s: &[u8], c: Cursor) -> Opened
         has_ret,
         ret: ret.value,
     };
-    if c.value == 5 {
-        return Opened {
-            cursor: ret,
-            d1: 0,
-            d2: 0,
-            last: false,
-            message: Message::SetResponse(message),
-        };
-    }
     Opened {
         cursor: ret,
         d1: 0,
         d2: 0,
         last: false,
-        message: Message::EventResponse(message),
+        message: if c.value == 5 {
+            Message::SetResponse(message)
+        } else {
+            Message::EventResponse(message)
+        },
     }
 }
 
@@ -256,20 +246,12 @@ pub(crate) fn opening(s: &[u8], c: Cursor) -> Opened
     requires { (length s.now ≤ 512) × Chosen s.now c × (c.value < 8) }
     ensures { Opens s.now result }
 {
-    if c.value == 1 {
-        return action_response(s, c);
+    match c.value {
+        0 | 2 => request(s, c),
+        1 => action_response(s, c),
+        4 => set_request(s, c),
+        6 => get_request(s, c),
+        7 => get_response(s, c),
+        _ => response(s, c),
     }
-    if c.value == 4 {
-        return set_request(s, c);
-    }
-    if c.value == 6 {
-        return get_request(s, c);
-    }
-    if c.value == 7 {
-        return get_response(s, c);
-    }
-    if c.value % 2 == 0 {
-        return request(s, c);
-    }
-    response(s, c)
 }

@@ -1,10 +1,20 @@
-use mathlib.Core.Path.{refl, ◌∙◌}
+use mathlib.Core.Path.{◌≡◌, refl, ◌∙◌, ap}
 use Rattle.apdu_reading.proofs.Fill.{held_none, stopped_rows, some_due, few, again, less, less_stop, done}
 use Rattle.apdu_reading.proofs.ServiceMessages.{opens_ready, read_rows}
 use Rattle.apdu_reading.proofs.Once.{read_once}
 use Rattle.apdu_reading.proofs.FrontLaws.{too_long, choice_refused, message_refused, message_answered}
 use native.Mathlib.Omega.{arith}
+use borrow.Author.Rules.{rules}
+use Rattle.apdu.proofs.Dues.{two}
+use Rattle.apdu.specs.declared.lists.Lists.{Lists}
+use Rattle.apdu_reading.specs.Answers.{no_lists}
 use Rattle.apdu_reading.proofs.read.Goals as goal
+
+rows_clear : {l : Lists} → l ≡ no_lists → l.rows ≡ no_lists.rows
+rows_clear e = ap (λ (l : Lists). l.rows) e
+
+entries_clear : {l : Lists} → l ≡ no_lists → l.entries ≡ no_lists.entries
+entries_clear e = ap (λ (l : Lists). l.entries) e
 
 pub returns-then-s-gt-LONGEST_MESSAGE : goal.returns-then-s-gt-LONGEST_MESSAGE
 returns-then-s-gt-LONGEST_MESSAGE c = record { answer = too_long _ c.if-s-gt-LONGEST_MESSAGE.true c.refused.ensures; once = read_once }
@@ -25,7 +35,7 @@ pub opening-o-requires : goal.opening-o-requires
 opening-o-requires c = (c.if-s-gt-LONGEST_MESSAGE.false, record { is = c.chosen-c.ensures; clean = c.if-c-ne0.false }, c.if-c-ge8.false)
 
 pub loop-due-init : goal.loop-due-init
-loop-due-init c = (held_none _ _ _ (opens_ready c.opening-o.ensures c.no_rows-rows.ensures), omega arith, refl)
+loop-due-init c = let none : c.default.result ≡ two 0 = search rules in (held_none _ _ _ (rw none (opens_ready c.opening-o.ensures (rows_clear c.cleared-lists.ensures))), omega arith, refl)
 
 pub next_row-t-requires : goal.next_row-t-requires
 next_row-t-requires c = (c.if-s-gt-LONGEST_MESSAGE.false, some_due _ _ _ _ _ c.loop-due.invariant.0 c.wants.ensures c.loop-due-test.true)
@@ -58,7 +68,7 @@ pub ended-end-requires : goal.ended-end-requires
 ended-end-requires c = c.if-s-gt-LONGEST_MESSAGE.false
 
 pub returns-then-end-ne0 : goal.returns-then-end-ne0
-returns-then-end-ne0 c = record { answer = message_refused _ c.if-s-gt-LONGEST_MESSAGE.false _ (read_rows c.opening-o.ensures c.no_rows-rows.ensures (done _ _ _ _ _ c.loop-due.invariant.0 c.wants.ensures c.loop-due.invariant.1 c.loop-due-test.false) c.integer_if-number.ensures) c.ended-end.ensures c.if-end-ne0.true c.refused-then-end-ne0.ensures; once = read_once }
+returns-then-end-ne0 c = let none : c.default.result ≡ two 0 = search rules in record { answer = message_refused _ c.if-s-gt-LONGEST_MESSAGE.false _ (read_rows c.opening-o.ensures (rows_clear c.cleared-lists.ensures) (rw none at (done _ _ _ _ _ c.loop-due.invariant.0 c.wants.ensures c.loop-due.invariant.1 c.loop-due-test.false)) c.integer_if-number.ensures) c.ended-end.ensures c.if-end-ne0.true c.refused-then-end-ne0.ensures; once = read_once }
 
 pub returns : goal.returns
-returns c = record { answer = message_answered _ c.if-s-gt-LONGEST_MESSAGE.false _ (read_rows c.opening-o.ensures c.no_rows-rows.ensures (done _ _ _ _ _ c.loop-due.invariant.0 c.wants.ensures c.loop-due.invariant.1 c.loop-due-test.false) c.integer_if-number.ensures) c.ended-end.ensures c.if-end-ne0.false c.closed-m.ensures (c.loop-due.invariant.2 ∙ c.no_entries-entries.ensures); once = read_once }
+returns c = let none : c.default.result ≡ two 0 = search rules in record { answer = message_answered _ c.if-s-gt-LONGEST_MESSAGE.false _ (read_rows c.opening-o.ensures (rows_clear c.cleared-lists.ensures) (rw none at (done _ _ _ _ _ c.loop-due.invariant.0 c.wants.ensures c.loop-due.invariant.1 c.loop-due-test.false)) c.integer_if-number.ensures) c.ended-end.ensures c.if-end-ne0.false c.closed.ensures (c.loop-due.invariant.2 ∙ entries_clear c.cleared-lists.ensures); once = read_once }

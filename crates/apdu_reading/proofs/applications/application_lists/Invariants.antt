@@ -5,13 +5,7 @@ use Rattle.apdu_reading.proofs.Stores.{Stored, Upto}
 use Rattle.apdu_reading.proofs.applications.application_lists.Given as goal
 
 abbrev pub invariant-loop-i : goal.invariant-loop-i
-invariant-loop-i l = Stored l.s l.mandatory (record { rows = record { cursor = l.initial.cursor; used = l.initial.used; rows = l.initial.lists.rows }; entries = l.initial.lists.entries }) l.i (record { rows = record { cursor = l.cursor; used = l.used; rows = l.lists.rows }; entries = l.lists.entries }) × (l.i ≤ l.others) × (l.mandatory + l.others ≤ 32)
-
-abbrev pub decreases-loop-i : goal.decreases-loop-i
-decreases-loop-i l = l.others - l.i
+invariant-loop-i l = Stored l.s l.mandatory (record { rows = record { cursor = l.initial.cursor; used = l.initial.used; rows = l.initial.lists.rows }; entries = l.initial.lists.entries }) l.i (record { rows = record { cursor = l.cursor; used = l.used; rows = l.lists.rows }; entries = l.lists.entries }) × (l.mandatory + l.others ≤ 32)
 
 abbrev pub invariant-loop-round : goal.invariant-loop-round
 invariant-loop-round l = Upto l.s l.f.has_others (record { rows = record { cursor = l.initial.cursor; used = l.initial.used; rows = l.initial.lists.rows }; entries = l.initial.lists.entries }) l.round l.mandatory l.others (record { rows = record { cursor = l.cursor; used = l.used; rows = l.lists.rows }; entries = l.lists.entries })
-
-abbrev pub decreases-loop-round : goal.decreases-loop-round
-decreases-loop-round l = 2 - l.round

@@ -1,11 +1,7 @@
--- `id_list` reads its count and then one id a turn: the loop has read `i` ids behind the count.
+-- `id_list` reads its count and then one id a turn: the loop has read as many ids behind the count as it has turned.
 -- Assumes nothing.
-use Prim.Native.Nat.{◌≤◌, ◌-◌}
 use Rattle.apdu_reading.proofs.Strings.{Ids}
 use Rattle.apdu_reading.proofs.component.id_list.Given as goal
 
-abbrev pub invariant-loop-i : goal.invariant-loop-i
-invariant-loop-i l = Ids l.s l.d l.i l.e × (l.i ≤ l.n)
-
-abbrev pub decreases-loop-i : goal.decreases-loop-i
-decreases-loop-i l = l.n - l.i
+abbrev pub invariant-loop : goal.invariant-loop
+invariant-loop l = Ids l.s l.d l.counter l.e

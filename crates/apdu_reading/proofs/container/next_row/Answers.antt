@@ -7,4 +7,4 @@ use Rattle.apdu_reading.proofs.container.next_row.Goals as goal
 pub returns : goal.returns
 returns c =
     let short = c.requires.0 in
-    next _ _ _ c.requires.1 c.integer-d.ensures c.level.ensures.0 (opens_place short c.place.ensures c.container-h.ensures) c.announces.ensures c.after_row-due.ensures
+    next _ _ _ c.requires.1 c.integer-d.ensures c.level.ensures.0 (opens_place short c.place.ensures c.container-h.ensures) c.announces.ensures c.after_row.ensures

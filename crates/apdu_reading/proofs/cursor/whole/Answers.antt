@@ -1,6 +1,6 @@
 -- By the ways of `piece_of`, as `piece`: the bits are read as one octet, or out of two.
 -- Assumes nothing.
-use mathlib.Core.Path.{refl}
+use mathlib.Core.Path.{refl, ◌∙◌}
 use Prim.Native.Nat.{◌+◌, ◌/◌}
 use Rattle.bits.proofs.Aligned.{read_octet, read_two}
 use Rattle.apdu_reading.proofs.Pieces.{by_stopped, by_cut, by_begins}
@@ -22,9 +22,6 @@ returns-then-s-i c = by_cut _ _ _ _ c.if-c-ne0.false c.faulty-then-s-i.ensures (
 pub bounds-s-i : goal.bounds-s-i
 bounds-s-i c = omega arith
 
-pub overflow_cast-s : goal.overflow_cast-s
-overflow_cast-s c = omega (arith, c.type_inv.s (c.args.c.at / 8))
-
 pub moved-requires : goal.moved-requires
 moved-requires c = omega arith
 
@@ -32,30 +29,22 @@ pub returns-then-skip-eq0 : goal.returns-then-skip-eq0
 returns-then-skip-eq0 c =
     let i = c.args.c.at / 8 in
     by_begins _ _ _ _ c.if-c-ne0.false refl
-    (read_octet _ _ 8 refl c.if-skip-eq0.true refl (c.type_inv.s i).fits) c.moved.ensures (omega arith)
+    (c.from.ensures ∙ read_octet _ _ 8 refl c.if-skip-eq0.true refl (c.type_inv.s i).fits) c.moved.ensures (omega arith)
 
 pub bounds-s-i-2 : goal.bounds-s-i-2
 bounds-s-i-2 c = omega arith
 
-pub overflow_cast-two : goal.overflow_cast-two
-overflow_cast-two c = omega (arith, c.type_inv.s (c.args.c.at / 8))
-
 pub overflow_mul-two : goal.overflow_mul-two
 overflow_mul-two c = omega (arith, c.type_inv.s (c.args.c.at / 8))
-
-pub overflow_add-two : goal.overflow_add-two
-overflow_add-two c = omega arith
 
 pub bounds-s-i-3 : goal.bounds-s-i-3
 bounds-s-i-3 c = omega arith
 
-pub overflow_cast-two-2 : goal.overflow_cast-two-2
-overflow_cast-two-2 c = omega (arith, c.type_inv.s (c.args.c.at / 8 + 1))
+pub overflow_add-i-2 : goal.overflow_add-i-2
+overflow_add-i-2 c = omega arith
 
-pub overflow_add-two-2 : goal.overflow_add-two-2
-overflow_add-two-2 c =
-    let i = c.args.c.at / 8 in
-    omega (arith, c.shared_slice_known-2-1.given i, c.type_inv.s (i + 1))
+pub overflow_add-two : goal.overflow_add-two
+overflow_add-two c = let i = c.args.c.at / 8 in omega (arith, c.type_inv.s i, c.type_inv.s (i + 1))
 
 pub overflow_sub-skip : goal.overflow_sub-skip
 overflow_sub-skip c = omega arith
@@ -70,5 +59,5 @@ pub returns : goal.returns
 returns c =
     let i = c.args.c.at / 8 in
     by_begins _ _ _ _ c.if-c-ne0.false refl
-    (read_two _ _ refl (c.shared_slice_known-2-1.given i).fits refl (c.type_inv.s (i + 1)).fits refl)
+    (rw (c.from-2.ensures, c.from-3.ensures) (read_two _ _ refl (c.type_inv.s i).fits refl (c.type_inv.s (i + 1)).fits refl))
     c.moved-2.ensures (omega arith)

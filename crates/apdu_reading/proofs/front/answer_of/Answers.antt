@@ -8,6 +8,6 @@ pub returns-then-end-ne0 : goal.returns-then-end-ne0
 unfolding answer_of
 returns-then-end-ne0 c = simp (ne_eqb _ _ c.if-end-ne0.true)
 
-pub returns : goal.returns
+pub returns-else-end-ne0 : goal.returns-else-end-ne0
 unfolding answer_of
-returns c = simp (eq-eqb _ _ c.if-end-ne0.false)
+returns-else-end-ne0 c = simp (eq-eqb _ _ c.if-end-ne0.false)

@@ -5,4 +5,4 @@ use Rattle.apdu_reading.proofs.front.refused.Goals as goal
 
 pub returns : goal.returns
 unfolding refusal
-returns c = rw (c.no_rows-rows.ensures, c.no_entries-entries.ensures)
+returns c = rw c.cleared.ensures

@@ -12,5 +12,5 @@ returns-then-f-eq8 c = bst_end _ _ c.requires.1 _ _ _ c.if-f-eq8.true c.id_list-
 pub configured-held-requires : goal.configured-held-requires
 configured-held-requires c = c.requires.0
 
-pub returns : goal.returns
-returns c = vst_end _ _ c.requires.1 _ _ _ c.if-f-eq8.false c.configured-held.ensures
+pub returns-else-f-eq8 : goal.returns-else-f-eq8
+returns-else-f-eq8 c = vst_end _ _ c.requires.1 _ _ _ c.if-f-eq8.false c.configured-held.ensures

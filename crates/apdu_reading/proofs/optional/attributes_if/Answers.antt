@@ -6,5 +6,5 @@ use Rattle.apdu_reading.proofs.optional.attributes_if.Goals as goal
 pub returns-then-p : goal.returns-then-p
 returns-then-p c = attributes_there _ _ _ c.if-p.true c.row_count.ensures
 
-pub returns : goal.returns
-returns c = attributes_absent _ _ _ c.if-p.false c.marked.ensures
+pub returns-else-p : goal.returns-else-p
+returns-else-p c = attributes_absent _ _ _ c.if-p.false c.marked.ensures

@@ -6,5 +6,5 @@ use Rattle.apdu_reading.proofs.optional.integer_if.Goals as goal
 pub returns-then-p : goal.returns-then-p
 returns-then-p c = integer_maybe _ _ _ c.if-p.true c.integer.ensures
 
-pub returns : goal.returns
-returns c = absent_maybe _ _ _ _ _ c.if-p.false c.marked.ensures
+pub returns-else-p : goal.returns-else-p
+returns-else-p c = absent_maybe _ _ _ _ _ c.if-p.false c.marked.ensures

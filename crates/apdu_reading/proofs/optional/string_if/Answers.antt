@@ -6,5 +6,5 @@ use Rattle.apdu_reading.proofs.optional.string_if.Goals as goal
 pub returns-then-p : goal.returns-then-p
 returns-then-p c = part_there _ _ _ _ c.if-p.true c.string.ensures
 
-pub returns : goal.returns
-returns c = part_absent _ _ _ _ _ c.if-p.false c.marked.ensures
+pub returns-else-p : goal.returns-else-p
+returns-else-p c = part_absent _ _ _ _ _ c.if-p.false c.marked.ensures

@@ -18,5 +18,5 @@ integer_if-ret-requires c = c.requires.0
 pub returns-then-c-eq5 : goal.returns-then-c-eq5
 returns-then-c-eq5 c = set_response_opens _ _ c.requires.1 c.piece-lead.ensures.0 c.flag-has_iid.ensures c.flag-has_ret.ensures c.read_field-fill.ensures c.integer-eid.ensures c.integer_if-iid.ensures c.integer_if-ret.ensures c.if-c-eq5.true
 
-pub returns : goal.returns
-returns c = event_response_opens _ _ c.requires.1 c.piece-lead.ensures.0 c.flag-has_iid.ensures c.flag-has_ret.ensures c.read_field-fill.ensures c.integer-eid.ensures c.integer_if-iid.ensures c.integer_if-ret.ensures (odd _ c.requires.2 c.requires.3 c.requires.4 c.if-c-eq5.false)
+pub returns-else-c-eq5 : goal.returns-else-c-eq5
+returns-else-c-eq5 c = event_response_opens _ _ c.requires.1 c.piece-lead.ensures.0 c.flag-has_iid.ensures c.flag-has_ret.ensures c.read_field-fill.ensures c.integer-eid.ensures c.integer_if-iid.ensures c.integer_if-ret.ensures (odd _ c.requires.2 c.requires.3 c.requires.4 c.if-c-eq5.false)

@@ -1,6 +1,0 @@
--- Both lists have nothing in them.
--- Assumes nothing.
-use Rattle.apdu_reading.proofs.applications.cleared.Goals as goal
-
-pub returns : goal.returns
-returns c = rw (c.no_rows-rows.ensures, c.no_entries-entries.ensures)
