@@ -9,7 +9,7 @@ use native.Mathlib.Omega.{arith}
 use lib.ListN.{length, take, set, length-set}
 use lib.Seq.{take-suc-set, take-set-le, get_or-set_same, get_or-set_other, drop-append-le, length-take-le}
 use lib.Dec.{ltb, eqb}
-use borrow.Author.Tests.{eq-eqb, ne_eqb, le-ltb, ltb-true, ltb-false, eqb-true, eqb-false}
+use borrow.Author.Tests.{eq-eqb, ne_eqb, ltb-true, ltb-false, eqb-true, eqb-false}
 use Rattle.refusals.specs.Check.{pick}
 use Rattle.refusals.proofs.Tests.{by_cases, and_true}
 use Rattle.bits.specs.Bits.{bits}
@@ -176,10 +176,6 @@ module _ (s : List ℕ) (c₀ : Cursor) (o₀ : Due) (k : ℕ) (rows₀ : List R
           long = p.long;
           few = low;
         }
-
--- where more rows may be announced than there is room, none is wanted
-pub none_wanted : (c : Cursor) (used : ℕ) → c.fault ≡ 0 → 32 ≤ c.room → false ≡ Wants c used
-none_wanted c used h k = let l : ltb used (32 - c.room) ≡ false = le-ltb used (32 - c.room) (omega arith) in rw (eq-eqb _ _ h, l)
 
 -- nothing is due
 pub filled_none : (s : List ℕ) (o : Due) {r : Rows} → Ready o r → total o ≡ 0 → Filled s o r r

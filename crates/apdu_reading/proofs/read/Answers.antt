@@ -1,5 +1,5 @@
 use mathlib.Core.Path.{◌≡◌, refl, ◌∙◌, ap}
-use Rattle.apdu_reading.proofs.Fill.{held_none, stopped_rows, some_due, few, again, less, less_stop, done}
+use Rattle.apdu_reading.proofs.Fill.{held_none, stopped_rows, few, again, less, less_stop, done}
 use Rattle.apdu_reading.proofs.ServiceMessages.{opens_ready, read_rows}
 use Rattle.apdu_reading.proofs.Once.{read_once}
 use Rattle.apdu_reading.proofs.FrontLaws.{too_long, choice_refused, message_refused, message_answered}
@@ -19,35 +19,14 @@ entries_clear e = ap (λ (l : Lists). l.entries) e
 pub returns-then-s-gt-LONGEST_MESSAGE : goal.returns-then-s-gt-LONGEST_MESSAGE
 returns-then-s-gt-LONGEST_MESSAGE c = record { answer = too_long _ c.if-s-gt-LONGEST_MESSAGE.true c.refused.ensures; once = read_once }
 
-pub chosen-c-requires : goal.chosen-c-requires
-chosen-c-requires c = omega (arith, c.if-s-gt-LONGEST_MESSAGE.false)
-
 pub returns-then-c-ne0 : goal.returns-then-c-ne0
 returns-then-c-ne0 c = record { answer = choice_refused _ c.if-s-gt-LONGEST_MESSAGE.false _ c.chosen-c.ensures c.if-c-ne0.true c.refused-then-c-ne0.ensures; once = read_once }
-
-pub link-requires : goal.link-requires
-link-requires c = (c.if-s-gt-LONGEST_MESSAGE.false, record { is = c.chosen-c.ensures; clean = c.if-c-ne0.false }, c.if-c-ge8.true)
 
 pub returns-then-c-ge8 : goal.returns-then-c-ge8
 returns-then-c-ge8 c = record { answer = c.link.ensures; once = read_once }
 
-pub opening-o-requires : goal.opening-o-requires
-opening-o-requires c = (c.if-s-gt-LONGEST_MESSAGE.false, record { is = c.chosen-c.ensures; clean = c.if-c-ne0.false }, c.if-c-ge8.false)
-
 pub loop-due-init : goal.loop-due-init
 loop-due-init c = let none : c.default.result ≡ two 0 = search rules in (held_none _ _ _ (rw none (opens_ready c.opening-o.ensures (rows_clear c.cleared-lists.ensures))), omega arith, refl)
-
-pub next_row-t-requires : goal.next_row-t-requires
-next_row-t-requires c = (c.if-s-gt-LONGEST_MESSAGE.false, some_due _ _ _ _ _ c.loop-due.invariant.0 c.wants.ensures c.loop-due-test.true)
-
-pub offset_bounds-lists-used : goal.offset_bounds-lists-used
-offset_bounds-lists-used c = let k = few _ _ _ _ _ c.loop-due.invariant.0 c.wants.ensures c.loop-due-test.true in omega arith
-
-pub bounds-lists-used : goal.bounds-lists-used
-bounds-lists-used c = let k = few _ _ _ _ _ c.loop-due.invariant.0 c.wants.ensures c.loop-due-test.true in let n = c.loop-due.invariant.0.long in omega arith
-
-pub overflow_add-used : goal.overflow_add-used
-overflow_add-used c = let k = few _ _ _ _ _ c.loop-due.invariant.0 c.wants.ensures c.loop-due-test.true in omega arith
 
 pub loop-due-smaller-then-cursor-eq0 : goal.loop-due-smaller-then-cursor-eq0
 loop-due-smaller-then-cursor-eq0 c = less _ _ _ _ _ c.loop-due.invariant.0 c.wants.ensures c.loop-due-test.true _ c.if-cursor-eq0.true
@@ -60,12 +39,6 @@ loop-due-smaller c = less_stop _ _ _ _ _ c.loop-due.invariant.0 c.wants.ensures 
 
 pub loop-due-preserved : goal.loop-due-preserved
 loop-due-preserved c = (stopped_rows _ _ _ _ _ c.loop-due.invariant.0 _ c.next_row-t.ensures c.if-cursor-eq0.false, c.loop-due.invariant.1, c.loop-due.invariant.2)
-
-pub integer_if-number-requires : goal.integer_if-number-requires
-integer_if-number-requires c = c.if-s-gt-LONGEST_MESSAGE.false
-
-pub ended-end-requires : goal.ended-end-requires
-ended-end-requires c = c.if-s-gt-LONGEST_MESSAGE.false
 
 pub returns-then-end-ne0 : goal.returns-then-end-ne0
 returns-then-end-ne0 c = let none : c.default.result ≡ two 0 = search rules in record { answer = message_refused _ c.if-s-gt-LONGEST_MESSAGE.false _ (read_rows c.opening-o.ensures (rows_clear c.cleared-lists.ensures) (rw none at (done _ _ _ _ _ c.loop-due.invariant.0 c.wants.ensures c.loop-due.invariant.1 c.loop-due-test.false)) c.integer_if-number.ensures) c.ended-end.ensures c.if-end-ne0.true c.refused-then-end-ne0.ensures; once = read_once }

@@ -15,9 +15,6 @@ use Rattle.apdu_reading.proofs.applications.application_lists.Goals.{then-round-
 pub loop-round-init : goal.loop-round-init
 loop-round-init c = none_read _ _ _ (nothing_stored _ (ap (λ (l : Lists). l.rows) c.cleared-lists.ensures) (ap (λ (l : Lists). l.entries) c.cleared-lists.ensures) c.requires.1.room)
 
-pub count_if-cursor-requires : goal.count_if-cursor-requires
-count_if-cursor-requires c = c.requires.0
-
 pub overflow_add-mandatory : goal.overflow_add-mandatory
 overflow_add-mandatory c = omega (arith, (upto_ready _ _ _ _ _ _ _ c.loop-round-test.true c.loop-round.invariant).1)
 
@@ -27,49 +24,26 @@ loop-i-init c = let u = upto_ready _ _ _ _ _ _ _ c.loop-round-test.true c.loop-r
 pub loop-round-preserved : goal.loop-round-preserved
 loop-round-preserved c =
     let there : c.if-round-eq0.count_if ≡ (eqb c.loop-round.round 0 || c.args.f.has_others) =
-        elim c.if-round-eq0.branch [
-          then-round-eq0 w ↦ rw (w.count_if-is, eq-eqb _ _ w.if-round-eq0.true)
-        | else-round-eq0 w ↦ rw (w.count_if-is, ne_eqb _ _ w.if-round-eq0.false)
-        ] in
+    elim c.if-round-eq0.branch [
+      | then-round-eq0 w ↦ rw (w.count_if-is, eq-eqb _ _ w.if-round-eq0.true)
+      | else-round-eq0 w ↦ rw (w.count_if-is, ne_eqb _ _ w.if-round-eq0.false)
+    ] in
     upto_more _ _ _ _ _ _ _ c.loop-round-test.true c.loop-round.invariant (rw there at c.count_if-cursor.ensures) (stored_all c.loop-i.invariant.0 c.loop-i.auto.i-end c.loop-i-test.false)
-
-pub entry_head-h-requires : goal.entry_head-h-requires
-entry_head-h-requires c = c.requires.0
-
-pub overflow_add-place : goal.overflow_add-place
-overflow_add-place c = omega (arith, c.loop-i.invariant.1)
-
-pub offset_bounds-lists-place : goal.offset_bounds-lists-place
-offset_bounds-lists-place c = omega (arith, c.loop-i.invariant.1)
-
-pub bounds-lists-place : goal.bounds-lists-place
-bounds-lists-place c = omega (arith, c.loop-i.invariant.1, c.loop-i.invariant.0.ready.long)
-
-pub with_rows-t-requires : goal.with_rows-t-requires
-with_rows-t-requires c = (c.requires.0, c.loop-i.invariant.0.ready.free, c.entry_head-h.ensures, omega (arith, c.if-h-eq0.false))
-
-pub offset_bounds-lists-place-else-h-eq0 : goal.offset_bounds-lists-place-else-h-eq0
-offset_bounds-lists-place-else-h-eq0 c = omega (arith, c.loop-i.invariant.1)
-
-pub bounds-lists-place-else-h-eq0 : goal.bounds-lists-place-else-h-eq0
-bounds-lists-place-else-h-eq0 c = omega (arith, c.loop-i.invariant.1, c.loop-i.invariant.0.ready.long)
 
 pub loop-i-preserved : goal.loop-i-preserved
 loop-i-preserved c =
     elim c.if-h-eq0.branch [
-      then-h-eq0 w ↦
-        (rw (w.cursor-is, w.used-is, w.lists-is)
-        (stored_more _ _ _ _ c.loop-i.invariant.0 (entry_alone _ _ c.loop-i.invariant.0.ready.free c.entry_head-h.ensures w.if-h-eq0.true) (omega (arith, c.loop-i-test.true, c.loop-i.invariant.1))), c.loop-i.invariant.1)
-    | else-h-eq0 w ↦
-        (rw (w.cursor-is, w.used-is, w.lists-is)
-        (stored_more _ _ _ _ c.loop-i.invariant.0 w.with_rows-t.ensures (omega (arith, c.loop-i-test.true, c.loop-i.invariant.1))), c.loop-i.invariant.1)
+      | then-h-eq0 w ↦ (
+        rw (w.cursor-is, w.used-is, w.lists-is)
+            (stored_more _ _ _ _ c.loop-i.invariant.0 (entry_alone _ _ c.loop-i.invariant.0.ready.free c.entry_head-h.ensures w.if-h-eq0.true) (omega (arith, c.loop-i-test.true, c.loop-i.invariant.1))),
+        c.loop-i.invariant.1,
+      )
+      | else-h-eq0 w ↦ (
+        rw (w.cursor-is, w.used-is, w.lists-is)
+            (stored_more _ _ _ _ c.loop-i.invariant.0 w.with_rows-t.ensures (omega (arith, c.loop-i-test.true, c.loop-i.invariant.1))),
+        c.loop-i.invariant.1,
+      )
     ]
-
-pub link_end-e-requires : goal.link_end-e-requires
-link_end-e-requires c = c.requires
-
-pub ended-end-requires : goal.ended-end-requires
-ended-end-requires c = c.requires.0
 
 pub returns : goal.returns
 returns c =

@@ -1,6 +1,6 @@
 -- The rounds are the lists, and in each round the entries are read one by one. With what stands behind them the message is whole.
 -- Assumes nothing.
-use Prim.Native.Nat.{◌+◌, ◌≤◌, ◌-◌}
+use Prim.Native.Nat.{◌+◌, ◌≤◌}
 use Rattle.apdu_reading.proofs.Stores.{Stored, Upto}
 use Rattle.apdu_reading.proofs.applications.application_lists.Given as goal
 

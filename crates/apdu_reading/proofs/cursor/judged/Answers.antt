@@ -14,6 +14,6 @@ pub returns-else-d-eq0 : goal.returns-else-d-eq0
 unfolding judged_by
 returns-else-d-eq0 c =
     elim c.else-d-eq0.branch [
-      else-d-eq0-via-then-d-eq0+else-wrong w ↦ rw (eq-eqb _ _ w.if-d-eq0.true, w.if-wrong.false)
-    | else-d-eq0-via-else-d-eq0 w ↦ rw (ne_eqb _ _ w.if-d-eq0.false)
+      | else-d-eq0-via-then-d-eq0+else-wrong w ↦ rw (eq-eqb _ _ w.if-d-eq0.true, w.if-wrong.false)
+      | else-d-eq0-via-else-d-eq0 w ↦ rw (ne_eqb _ _ w.if-d-eq0.false)
     ]

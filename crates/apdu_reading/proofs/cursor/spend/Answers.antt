@@ -9,8 +9,8 @@ pub returns-then-c-ne0 : goal.returns-then-c-ne0
 unfolding spent
 returns-then-c-ne0 c =
     elim c.then-c-ne0.branch [
-      then-c-ne0-via-then-c-ne0 w ↦ simp (ne_eqb _ _ w.if-c-ne0.true)
-    | then-c-ne0-via-else-c-ne0+then-c w ↦ simp (lt-ltb _ _ w.if-c.true, eq-eqb _ _ w.if-c-ne0.false)
+      | then-c-ne0-via-then-c-ne0 w ↦ simp (ne_eqb _ _ w.if-c-ne0.true)
+      | then-c-ne0-via-else-c-ne0+then-c w ↦ simp (lt-ltb _ _ w.if-c.true, eq-eqb _ _ w.if-c-ne0.false)
     ]
 
 pub returns : goal.returns

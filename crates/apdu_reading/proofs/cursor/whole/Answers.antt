@@ -10,50 +10,14 @@ use Rattle.apdu_reading.proofs.cursor.whole.Goals as goal
 pub returns-then-c-ne0 : goal.returns-then-c-ne0
 returns-then-c-ne0 c = by_stopped _ _ _ _ c.if-c-ne0.true c.faulty.ensures
 
-pub overflow_add-skip : goal.overflow_add-skip
-overflow_add-skip c = omega arith
-
-pub overflow_add-i : goal.overflow_add-i
-overflow_add-i c = omega arith
-
 pub returns-then-s-i : goal.returns-then-s-i
 returns-then-s-i c = by_cut _ _ _ _ c.if-c-ne0.false c.faulty-then-s-i.ensures (omega arith)
-
-pub bounds-s-i : goal.bounds-s-i
-bounds-s-i c = omega arith
-
-pub moved-requires : goal.moved-requires
-moved-requires c = omega arith
 
 pub returns-then-skip-eq0 : goal.returns-then-skip-eq0
 returns-then-skip-eq0 c =
     let i = c.args.c.at / 8 in
     by_begins _ _ _ _ c.if-c-ne0.false refl
     (c.from.ensures ∙ read_octet _ _ 8 refl c.if-skip-eq0.true refl (c.type_inv.s i).fits) c.moved.ensures (omega arith)
-
-pub bounds-s-i-2 : goal.bounds-s-i-2
-bounds-s-i-2 c = omega arith
-
-pub overflow_mul-two : goal.overflow_mul-two
-overflow_mul-two c = omega (arith, c.type_inv.s (c.args.c.at / 8))
-
-pub bounds-s-i-3 : goal.bounds-s-i-3
-bounds-s-i-3 c = omega arith
-
-pub overflow_add-i-2 : goal.overflow_add-i-2
-overflow_add-i-2 c = omega arith
-
-pub overflow_add-two : goal.overflow_add-two
-overflow_add-two c = let i = c.args.c.at / 8 in omega (arith, c.type_inv.s i, c.type_inv.s (i + 1))
-
-pub overflow_sub-skip : goal.overflow_sub-skip
-overflow_sub-skip c = omega arith
-
-pub overflow_shr-two : goal.overflow_shr-two
-overflow_shr-two c = omega arith
-
-pub moved-requires-2 : goal.moved-requires-2
-moved-requires-2 c = omega arith
 
 pub returns : goal.returns
 returns c =

@@ -5,15 +5,6 @@ use Rattle.apdu_reading.proofs.LinkLaws.{two_octets, with_status, without_status
 use Rattle.apdu_reading.proofs.Components.{class_is_law}
 use Rattle.apdu_reading.proofs.link.configured.Goals as goal
 
-pub piece-class-requires : goal.piece-class-requires
-piece-class-requires c = c.requires
-
-pub piece-maker-requires : goal.piece-maker-requires
-piece-maker-requires c = c.requires
-
-pub piece-status-requires : goal.piece-status-requires
-piece-status-requires c = c.requires
-
 pub returns-then-has_status : goal.returns-then-has_status
 returns-then-has_status c = with_status _ _ (c.piece-class.ensures.0 ∙ class_is_law _ _) c.piece-class.ensures.1 c.if-has_status.true-raw (two_octets _ _ c.piece-maker.ensures.0) (two_octets _ _ c.piece-status.ensures.0)
 

@@ -3,14 +3,8 @@
 use Rattle.apdu_reading.proofs.LinkLaws.{bst_end, vst_end}
 use Rattle.apdu_reading.proofs.link.link_end.Goals as goal
 
-pub id_list-profiles-requires : goal.id_list-profiles-requires
-id_list-profiles-requires c = c.requires.0
-
 pub returns-then-f-eq8 : goal.returns-then-f-eq8
 returns-then-f-eq8 c = bst_end _ _ c.requires.1 _ _ _ c.if-f-eq8.true c.id_list-profiles.ensures
-
-pub configured-held-requires : goal.configured-held-requires
-configured-held-requires c = c.requires.0
 
 pub returns-else-f-eq8 : goal.returns-else-f-eq8
 returns-else-f-eq8 c = vst_end _ _ c.requires.1 _ _ _ c.if-f-eq8.false c.configured-held.ensures

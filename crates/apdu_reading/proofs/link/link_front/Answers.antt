@@ -6,26 +6,11 @@ use borrow.Author.Rules.{rules}
 use Rattle.apdu_reading.proofs.LinkLaws.{bst_front_law, vst_front_law}
 use Rattle.apdu_reading.proofs.link.link_front.Goals as goal
 
-pub piece-lead-requires : goal.piece-lead-requires
-piece-lead-requires c = c.requires.0
-
-pub piece-time-requires : goal.piece-time-requires
-piece-time-requires c = c.requires.0
-
-pub integer-profile-requires : goal.integer-profile-requires
-integer-profile-requires c = c.requires.0
-
 pub returns-then-c-eq8 : goal.returns-then-c-eq8
 returns-then-c-eq8 c =
     let fill : c.default.result.fill ≡ 0 = search rules in
     rw fill
     (bst_front_law _ _ c.requires.1 c.piece-lead.ensures.0 c.piece-time.ensures.0 c.integer-profile.ensures _ c.flag-has_others.ensures c.read_field-manufacturer.ensures c.read_field-individual.ensures c.if-c-eq8.true)
-
-pub piece-lead-requires-else-c-eq8 : goal.piece-lead-requires-else-c-eq8
-piece-lead-requires-else-c-eq8 c = c.requires.0
-
-pub integer-profile-requires-else-c-eq8 : goal.integer-profile-requires-else-c-eq8
-integer-profile-requires-else-c-eq8 c = c.requires.0
 
 pub returns-else-c-eq8 : goal.returns-else-c-eq8
 returns-else-c-eq8 c =

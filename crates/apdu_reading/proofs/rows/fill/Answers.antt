@@ -1,21 +1,9 @@
-use Rattle.apdu_reading.proofs.Fill.{held_none, stopped_rows, some_due, few, again, less, less_stop, done}
+use Rattle.apdu_reading.proofs.Fill.{held_none, stopped_rows, few, again, less, less_stop, done}
 use native.Mathlib.Omega.{arith}
 use Rattle.apdu_reading.proofs.rows.fill.Goals as goal
 
 pub loop-due-init : goal.loop-due-init
 loop-due-init c = (held_none _ _ _ c.requires.1, c.requires.1.few)
-
-pub next_row-t-requires : goal.next_row-t-requires
-next_row-t-requires c = (c.requires.0, some_due _ _ _ _ _ c.loop-due.invariant.0 c.wants.ensures c.loop-due-test.true)
-
-pub offset_bounds-rows-used : goal.offset_bounds-rows-used
-offset_bounds-rows-used c = let k = few _ _ _ _ _ c.loop-due.invariant.0 c.wants.ensures c.loop-due-test.true in omega arith
-
-pub bounds-rows-used : goal.bounds-rows-used
-bounds-rows-used c = let k = few _ _ _ _ _ c.loop-due.invariant.0 c.wants.ensures c.loop-due-test.true in let n = c.loop-due.invariant.0.long in omega arith
-
-pub overflow_add-used : goal.overflow_add-used
-overflow_add-used c = let k = few _ _ _ _ _ c.loop-due.invariant.0 c.wants.ensures c.loop-due-test.true in omega arith
 
 pub loop-due-smaller-then-cursor-eq0 : goal.loop-due-smaller-then-cursor-eq0
 loop-due-smaller-then-cursor-eq0 c = less _ _ _ _ _ c.loop-due.invariant.0 c.wants.ensures c.loop-due-test.true _ c.if-cursor-eq0.true

@@ -3,17 +3,5 @@
 use Rattle.apdu_reading.proofs.ServiceMessages.{action_response_opens}
 use Rattle.apdu_reading.proofs.services.action_response.Goals as goal
 
-pub piece-lead-requires : goal.piece-lead-requires
-piece-lead-requires c = c.requires.0
-
-pub integer-eid-requires : goal.integer-eid-requires
-integer-eid-requires c = c.requires.0
-
-pub integer_if-iid-requires : goal.integer_if-iid-requires
-integer_if-iid-requires c = c.requires.0
-
-pub container_if-h-requires : goal.container_if-h-requires
-container_if-h-requires c = c.requires.0
-
 pub returns : goal.returns
 returns c = action_response_opens _ _ c.requires.1 c.piece-lead.ensures.0 c.flag-has_iid.ensures c.flag-has_parameter.ensures c.flag-has_ret.ensures c.read_field-fill.ensures c.integer-eid.ensures c.integer_if-iid.ensures c.container_if-h.ensures c.announces-d2.ensures c.requires.2

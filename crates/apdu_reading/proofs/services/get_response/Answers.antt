@@ -3,17 +3,5 @@
 use Rattle.apdu_reading.proofs.ServiceMessages.{get_response_opens}
 use Rattle.apdu_reading.proofs.services.get_response.Goals as goal
 
-pub piece-lead-requires : goal.piece-lead-requires
-piece-lead-requires c = c.requires.0
-
-pub integer-eid-requires : goal.integer-eid-requires
-integer-eid-requires c = c.requires.0
-
-pub integer_if-iid-requires : goal.integer_if-iid-requires
-integer_if-iid-requires c = c.requires.0
-
-pub attributes_if-cursor-requires : goal.attributes_if-cursor-requires
-attributes_if-cursor-requires c = c.requires.0
-
 pub returns : goal.returns
 returns c = get_response_opens _ _ c.requires.1 c.piece-lead.ensures.0 c.flag-has_iid.ensures c.flag-has_attributes.ensures c.flag-has_ret.ensures c.read_field-fill.ensures c.integer-eid.ensures c.integer_if-iid.ensures c.attributes_if-cursor.ensures c.requires.2

@@ -3,17 +3,5 @@
 use Rattle.apdu_reading.proofs.ServiceMessages.{set_request_opens}
 use Rattle.apdu_reading.proofs.services.set_request.Goals as goal
 
-pub piece-lead-requires : goal.piece-lead-requires
-piece-lead-requires c = c.requires.0
-
-pub integer-eid-requires : goal.integer-eid-requires
-integer-eid-requires c = c.requires.0
-
-pub string_if-credentials-requires : goal.string_if-credentials-requires
-string_if-credentials-requires c = c.requires.0
-
-pub attributes_if-cursor-requires : goal.attributes_if-cursor-requires
-attributes_if-cursor-requires c = c.requires.0
-
 pub returns : goal.returns
 returns c = set_request_opens _ _ c.requires.1 c.piece-lead.ensures.0 _ c.flag-has_credentials.ensures c.flag-has_iid.ensures c.read_field-fill.ensures c.flag-mode.ensures c.integer-eid.ensures c.string_if-credentials.ensures c.attributes_if-cursor.ensures c.requires.2
