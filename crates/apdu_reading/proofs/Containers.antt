@@ -1,7 +1,7 @@
 -- Containers up to their rows.
 -- Assumes nothing.
 use Prim.Native.Nat.{ℕ, suc, ◌+◌, ◌-◌, ◌≤◌, ◌<◌}
-use mathlib.Core.Path.{◌≡◌, refl, ap, sym, ◌∙◌, subst}
+use mathlib.Core.Path.{◌≡◌, refl, ap, sym, ◌∙◌}
 use mathlib.Core.List.{List, [], ◌∷◌, ◌++◌, append_assoc}
 use mathlib.Core.Bool.{Bool, true, false, ◌||◌, not}
 use native.Mathlib.Omega.{arith}
@@ -35,11 +35,6 @@ use Rattle.apdu_reading.proofs.Strings.{fault_of_law, room_of, integer_reads, in
 
 abbrev pub head : ℕ → ℕ → ℕ → Cursor → Head
 head k n start c = record { kind = k; n = n; start = start; cursor = c }
-
--- no component but a string or a list has a start
-starts_none : (s : List ℕ) (i : Component) (c : Cursor) {d : Cursor} → d ≡ component s i c → d.start ≡ 0
-unfolding component
-starts_none s i c e = ap (λ (d : Cursor). d.start) e
 
 -- what a string or a list of ids ensures
 abbrev Ensured : List ℕ → List Component → Cursor → Cursor → List Value → Type 0
@@ -168,12 +163,10 @@ module _ (s : List ℕ) (depth : ℕ) (c : Cursor) {k : Cursor} (x : k ≡ compo
         plain 8 d.value d.start r.0 refl (unfold content in rw e) (unfold head_values in rw e) r.2 (omega arith) r.1
         (λ g. unfold part_fits in r.3.so g) (record { are = λ z. never (sym z) })
 
-    pub opens_integer : k.value ≡ 7 → {d : Cursor} → (d ≡ component s integer k) × (d.value < 128) → Opens s depth c (head 7 d.value d.start d)
+    pub opens_integer : k.value ≡ 7 → {d : Cursor} → (d ≡ component s integer k) × (d.value < 128) → Opens s depth c (head 7 d.value 0 d)
     opens_integer e {d} y =
-        let P : ℕ → Type 0 = λ n. Opens s depth c (head 7 d.value n d) in
-        subst P (sym (starts_none s integer k y.0))
-        (plain 7 d.value 0 (integer_reads s k y.0) refl (unfold content in rw e) (unfold head_values in rw e) (integer_room s k y.0) (omega arith) y.1
-        (λ g. unfold part_fits in refl) zero_tidy)
+        plain 7 d.value 0 (integer_reads s k y.0) refl (unfold content in rw e) (unfold head_values in rw e) (integer_room s k y.0) (omega arith) y.1
+        (λ g. unfold part_fits in refl) zero_tidy
 
     -- an attribute list
     module _ (e : k.value ≡ 9) {d : Cursor} (y : d ≡ component s (row_count (suc depth)) k) (low : d.value < 128) where
@@ -181,9 +174,9 @@ module _ (s : List ℕ) (depth : ℕ) (c : Cursor) {k : Cursor} (x : k ≡ compo
       unfolding brings numbers_of content
       kind_more = rw (← x, eq-eqb _ _ h, kind_saw, e)
 
-      unstarted : Opens s depth c (head 9 d.value 0 d)
+      pub opens_rows : Opens s depth c (head 9 d.value 0 d)
       unfolding head_values
-      unstarted =
+      opens_rows =
           record {
             so = λ log.
                 one s (container depth) c x log
@@ -198,6 +191,3 @@ module _ (s : List ℕ) (depth : ℕ) (c : Cursor) {k : Cursor} (x : k ≡ compo
             parts = λ g. unfold part_fits in refl;
             tidy = zero_tidy;
           }
-
-      pub opens_rows : Opens s depth c (head 9 d.value d.start d)
-      opens_rows = let P : ℕ → Type 0 = λ n. Opens s depth c (head 9 d.value n d) in subst P (sym (starts_none s (row_count (suc depth)) k y)) unstarted

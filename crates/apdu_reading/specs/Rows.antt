@@ -15,10 +15,6 @@ use Rattle.apdu.specs.declared.due.Due.{Due}
 use Rattle.apdu_reading.specs.declared.container.RowRead.{RowRead}
 use Rattle.apdu_reading.specs.Cursor.{state_of}
 
--- a container of a kind whose content ends at a cursor
-abbrev pub head_of : ℕ → Cursor → Head
-head_of kind c = record { kind = kind; n = c.value; start = c.start; cursor = c }
-
 -- a container is read up to its rows
 pub record Opens (s : List ℕ) (depth : ℕ) (c : Cursor) (r : Head) : Type 0 where
   pub so : (log : List Value) → runs (bits s) (container depth ∷ []) (state_of c log)

@@ -33,11 +33,14 @@ pub(crate) fn faulty(c: Cursor, number: u8, position: usize) -> Cursor
 pub(crate) fn judged(c: Cursor, number: u8, wrong: bool, d: Cursor) -> Cursor
     ensures { result ≡ judged_by c number wrong d }
 {
-    if d.fault == 0 && wrong {
-        faulty(c, number, d.begun / 8)
-    } else {
-        d
+    // A return for each way: with the tests joined by `&&`, reading is up to half as slow again.
+    if d.fault != 0 {
+        return d;
     }
+    if wrong {
+        return faulty(c, number, d.begun / 8);
+    }
+    d
 }
 
 // The cursor behind `width` bits that say `value`, of a component that begins at `begun`.
@@ -64,11 +67,18 @@ pub(crate) fn piece(s: &[u8], width: usize, begins: bool, c: Cursor) -> Cursor
     if c.fault != 0 {
         return faulty(c, c.fault, c.position);
     }
-    if end < at || end - at < width {
+    // Returns of their own here too, as in `judged`.
+    if end < at {
         return faulty(c, refusals::CUT_SHORT, s.len());
     }
-    let begun = if begins { at } else { c.begun };
-    moved(c, width, begun, bits::read_field(s, at, width))
+    if end - at < width {
+        return faulty(c, refusals::CUT_SHORT, s.len());
+    }
+    let value = bits::read_field(s, at, width);
+    if begins {
+        return moved(c, width, at, value);
+    }
+    moved(c, width, c.begun, value)
 }
 
 // The cursor behind the next eight bits, of a component that begins here: they lie in one octet or in two.
@@ -97,7 +107,11 @@ pub(crate) fn whole(s: &[u8], c: Cursor) -> Cursor
 pub(crate) fn spend(c: Cursor) -> Cursor
     ensures { result ≡ spent c }
 {
-    if c.fault != 0 || c.room < c.value {
+    // Returns of their own here too, as in `judged`.
+    if c.fault != 0 {
+        return c;
+    }
+    if c.room < c.value {
         return c;
     }
     Cursor {

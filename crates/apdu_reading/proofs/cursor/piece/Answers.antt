@@ -3,18 +3,27 @@
 use Rattle.apdu_reading.proofs.Pieces.{by_stopped, by_cut, by_begins, by_goes_on}
 use native.Mathlib.Omega.{arith}
 use Rattle.apdu_reading.proofs.cursor.piece.Goals as goal
-use Rattle.apdu_reading.proofs.cursor.piece.Goals.{then-end-at-via-then-end-at, then-end-at-via-else-end-at+then-end-at-2, then-begins, else-begins}
+
+pub overflow_mul-end : goal.overflow_mul-end
+overflow_mul-end c = omega arith
 
 pub returns-then-c-ne0 : goal.returns-then-c-ne0
 returns-then-c-ne0 c = by_stopped _ _ _ _ c.if-c-ne0.true c.faulty.ensures
 
 pub returns-then-end-at : goal.returns-then-end-at
-returns-then-end-at c = by_cut _ _ _ _ c.if-c-ne0.false c.faulty-then-end-at.ensures
-    (elim c.then-end-at.branch [ then-end-at-via-then-end-at w ↦ omega arith | then-end-at-via-else-end-at+then-end-at-2 w ↦ omega arith ])
+returns-then-end-at c = by_cut _ _ _ _ c.if-c-ne0.false c.faulty-then-end-at.ensures (omega arith)
+
+pub returns-then-end-at-2 : goal.returns-then-end-at-2
+returns-then-end-at-2 c = by_cut _ _ _ _ c.if-c-ne0.false c.faulty-then-end-at-2.ensures (omega arith)
+
+pub moved-requires : goal.moved-requires
+moved-requires c = omega arith
+
+pub returns-then-begins : goal.returns-then-begins
+returns-then-begins c = by_begins _ _ _ _ c.if-c-ne0.false c.if-begins.true c.read_field-value.ensures c.moved.ensures (omega arith)
+
+pub moved-requires-2 : goal.moved-requires-2
+moved-requires-2 c = omega arith
 
 pub returns : goal.returns
-returns c =
-    elim c.if-begins.branch [
-      | then-begins w ↦ by_begins _ _ _ _ c.if-c-ne0.false w.if-begins.true c.read_field.ensures (rw w.begun-is at c.moved.ensures) (omega arith)
-      | else-begins w ↦ by_goes_on _ _ _ _ c.if-c-ne0.false w.if-begins.false c.read_field.ensures (rw w.begun-is at c.moved.ensures) (omega arith)
-    ]
+returns c = by_goes_on _ _ _ _ c.if-c-ne0.false c.if-begins.false c.read_field-value.ensures c.moved-2.ensures (omega arith)
