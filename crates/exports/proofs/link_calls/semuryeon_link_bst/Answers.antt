@@ -13,7 +13,9 @@ returns-in-Refused c = record {
 
 pub returns-in-Bst : goal.returns-in-Bst
 returns-in-Bst c = record {
-  answer = bst_heard _ _ _ c.read-reading.ensures.answer _ _ c.in-Message.is c.in-Bst.is c.hear.ensures;
+  answer =
+      rw (← c.from.ensures, ← c.from-in-Bst.ensures, ← c.from-in-Bst-2.ensures)
+      (bst_heard _ _ _ c.read-reading.ensures.answer _ _ c.in-Message.is c.in-Bst.is c.hear.ensures);
   unpacking = unpacking_bst;
   kept = kept_heard;
 }
