@@ -1,10 +1,11 @@
 -- The fragment call: from what its callees give to the definition.
 use mathlib.Core.Path.{◌≡◌, refl, sym, ap, ◌∙◌}
 use mathlib.Core.Logic.{⊎_elim}
-use mathlib.Core.Bool.{Bool, true, false, not, false≢true}
+use mathlib.Core.Bool.{Bool, true, false, not, ◌&&◌, false≢true}
 use mathlib.Core.List.{List, [], ◌∷◌, ◌++◌}
 use Prim.Native.Nat.{ℕ, suc, ◌+◌, ◌-◌, ◌*◌, ◌≤◌, ◌<◌}
 use native.Mathlib.Omega.{arith}
+use native.Mathlib.Numerals.{add-one}
 use native.Mathlib.Nat.{eq-or-lt_of_le}
 use lib.ListN.{length, get_or, take, drop, length-drop, get_or-eq_default}
 use lib.Seq.{take_all}
@@ -21,19 +22,17 @@ use Rattle.slots.specs.declared.Slot.{Slot}
 use Rattle.slots.specs.declared.Table.{Table}
 use Rattle.slots.specs.Slots.{slot_count, free, is_busy, bit_of, index_of, lowest_free, is_sound}
 use Rattle.slots.specs.Model.{count_busy, first_free}
-use Rattle.slots.proofs.Tests.{not_f}
+use Rattle.slots.proofs.Tests.{not_f, and_l}
 use Rattle.slots.proofs.LookupLaws.{index_le}
 use Rattle.slots.proofs.WordLaws.{ones_word}
 use Rattle.slots.proofs.SoundLaws.{sound_parts, sound_at, held_small, next_held}
-use Rattle.reassembly.specs.declared.FragmentFields.{FragmentFields}
-use Rattle.reassembly.specs.declared.Facts.{Facts}
 use Rattle.reassembly.specs.declared.Arrival.{Arrival}
 use Rattle.reassembly.specs.declared.Change.{Change}
-use Rattle.reassembly.specs.Checks.{fragment_in, payload_of, lsdu_checks, header_checks, pair_checks}
+use Rattle.reassembly.specs.Checks.{FragmentFields, Facts, fragment_in, payload_of, lsdu_checks, header_checks, pair_checks}
 use Rattle.reassembly.specs.Engine.{Taken, slot_for, facts_from, facts_in, fragment_refusal, change_taken, fragment_taken, fragment_of, change_of, taken_of, changed_by, ChangeGives, FragmentGives}
 use Rattle.reassembly.specs.Accept.{AcceptAsks, AcceptGives}
 use Rattle.reassembly.proofs.Joins.{lowest_is}
-use Rattle.reassembly.proofs.Passed.{Numbered, first_append, Passed, passed, valid_is, valid_refusal}
+use Rattle.reassembly.proofs.Passed.{Numbered, first_append, Passed, passed, valid_is, valid_refusal, no_fields}
 use Rattle.reassembly.proofs.Headed.{header_in, payload_long}
 
 free_lt : (slots : List Slot) → count_busy slots < length slots → first_free slots < length slots
@@ -44,6 +43,20 @@ free_lt (slot ∷ slots) h = go (is_busy slot) (free_lt slots) h
     go : (b : Bool) → (count_busy slots < length slots → first_free slots < length slots) → bit_of b + count_busy slots < suc (length slots) → pick b (first_free slots + 1) 0 < suc (length slots)
     go true ih g = omega (arith, ih (omega arith))
     go false ih g = omega arith
+
+-- the slot at a pair's index is busy, or free past the last
+pub shut_is : (lid number : ℕ) (slots : List Slot) → is_busy (get_or slots (index_of lid number slots) free) ≡ false → get_or slots (index_of lid number slots) free ≡ free
+unfolding index_of
+shut_is lid n [] h = refl
+shut_is lid n (slot ∷ slots) h = go (is_busy slot && eqb slot.lid lid && eqb slot.number n) refl (shut_is lid n slots) h
+  where
+    go : (b : Bool) → is_busy slot && eqb slot.lid lid && eqb slot.number n ≡ b
+        → (is_busy (get_or slots (index_of lid n slots) free) ≡ false → get_or slots (index_of lid n slots) free ≡ free)
+        → is_busy (get_or (slot ∷ slots) (pick b 0 (index_of lid n slots + 1)) free) ≡ false → get_or (slot ∷ slots) (pick b 0 (index_of lid n slots + 1)) free ≡ free
+    go true e ih h = absurd (false≢true (sym h ∙ and_l (is_busy slot) (eqb slot.lid lid) (and_l (is_busy slot && eqb slot.lid lid) (eqb slot.number n) e)))
+    go false e ih h =
+        let s = ap (λ (k : ℕ). get_or (slot ∷ slots) k free) (add-one (index_of lid n slots)) in
+        s ∙ ih (ap is_busy (sym s) ∙ h)
 
 -- a busy slot stands in the table, and what it holds in the store
 module _ (slots : List Slot) (i : ℕ) (n : length slots ≡ 8) (le : i ≤ 8) where
@@ -142,6 +155,14 @@ module _ {lid : ℕ} {lsdu : List ℕ} {t : Table} {store output : List ℕ} whe
   early_gives e sound first =
       let n = first ∙ ap (λ (b : Bool). first_of (early_list lid lsdu t store output b)) sound in
       refusal_gives e (by_lists lid lsdu t store output ∙ rw (sym n, not_0 e))
+
+  pub header_gives : {tick : ℕ} {fine : Bool} (e : Refusal) → fine ≡ is_sound t → 0 ≡ first_of (early_list lid lsdu t store output fine)
+      → no_fields ≡ fragment_in lsdu → number_of e ≡ 5 → ChangeGives lid tick lsdu t store output (Err e) store output
+  unfolding first_of
+  header_gives e sound none fields h =
+      let early = sym (none ∙ ap (λ (b : Bool). first_of (early_list lid lsdu t store output b)) sound) in
+      let late = ap (λ (f : FragmentFields). first_of (late_list lid lsdu t store output f (facts_in lid f.number t))) (sym fields) in
+      refusal_gives e (by_lists lid lsdu t store output ∙ rw early late ∙ sym h)
 
   -- ---- no refusal
 

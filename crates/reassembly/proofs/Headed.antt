@@ -1,12 +1,12 @@
 -- The fragment of an LSDU, from what reading its header answers.
 use mathlib.Core.Path.{◌≡◌, refl, sym, ap, ◌∙◌}
-use mathlib.Core.Bool.{true}
-use mathlib.Core.List.{List}
+use mathlib.Core.Bool.{Bool, true, false}
+use mathlib.Core.List.{List, [], ◌∷◌}
 use Prim.Native.Nat.{ℕ, zero, suc, ◌-◌, ◌≤◌}
 use native.Mathlib.Omega.{arith}
 use lib.ListN.{length, length-drop}
 use borrow.Author.Tests.{eq-eqb, ne_eqb, ltb-false}
-use Rattle.refusals.specs.Check.{refused, accepted, decided}
+use Rattle.refusals.specs.Check.{check, first_of, refused, accepted, decided}
 use Rattle.header.specs.declared.Header.{Header}
 use Rattle.header.specs.declared.HeaderRead.{HeaderRead}
 use Rattle.header.specs.Header.{read_refusal, read_header, header_of, header_length}
@@ -27,6 +27,22 @@ read_other : (s : List ℕ) (k j : ℕ) → decided {A = HeaderRead} k (record {
 unfolding decided
 read_other s zero j e = let z : ◌≡◌ {A = ℕ} 0 1 = cc in absurd (omega arith)
 read_other s (suc k) j e = λ z. omega (arith, z)
+
+-- the only number that the header's checks have
+five : (a b c : Bool) (k : ℕ) → first_of (check 5 a ∷ check 5 b ∷ check 5 c ∷ []) ≡ suc k → suc k ≡ 5
+unfolding first_of
+five true b c k e = sym e
+five false true c k e = sym e
+five false false true k e = sym e
+five false false false k e = absurd (omega (arith, e))
+
+pub refused_5 : (s : List ℕ) (j : ℕ) → refused j ≡ read_header s → j ≡ 5
+unfolding read_header read_refusal decided
+refused_5 s j e = go (read_refusal s) refl (sym e)
+  where
+    go : (k : ℕ) → read_refusal s ≡ k → decided {A = HeaderRead} k (record { header = header_of s; size = header_length s }) ≡ refused j → j ≡ 5
+    go zero r d = let z : ◌≡◌ {A = ℕ} 0 1 = cc in absurd (omega arith)
+    go (suc k) r d = let q : suc k ≡ j = cc in sym q ∙ five _ _ _ k r
 
 -- a header that is not refused lies in its LSDU
 pub header_in : (s : List ℕ) → read_refusal s ≡ 0 → header_length s ≤ length s

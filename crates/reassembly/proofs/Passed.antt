@@ -12,9 +12,7 @@ use Rattle.bits.proofs.Laws.{field_lt}
 use Rattle.header.specs.Header.{read_refusal, header_of}
 use Rattle.slots.specs.Slots.{lid_in_range}
 use Rattle.slots.proofs.Tests.{not_f}
-use Rattle.reassembly.specs.declared.FragmentFields.{FragmentFields}
-use Rattle.reassembly.specs.declared.Facts.{Facts}
-use Rattle.reassembly.specs.Checks.{fragment_in, payload_of, fragment_checks}
+use Rattle.reassembly.specs.Checks.{FragmentFields, Facts, fragment_in, payload_of, fragment_checks}
 
 -- ---- lists of checks
 

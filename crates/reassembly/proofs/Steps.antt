@@ -20,10 +20,8 @@ use Rattle.slots.proofs.Tests.{and_l, and_r, and_i}
 use Rattle.slots.proofs.WordLaws.{ones_word}
 use Rattle.slots.proofs.SoundLaws.{sound_whole, sound_at, next_held}
 use Rattle.slots.proofs.SweepLaws.{length_freed}
-use Rattle.reassembly.specs.declared.FragmentFields.{FragmentFields}
 use Rattle.reassembly.specs.declared.Accepted.{Accepted}
-use Rattle.reassembly.specs.declared.Facts.{Facts}
-use Rattle.reassembly.specs.Checks.{fragment_in, payload_of, fragment_checks}
+use Rattle.reassembly.specs.Checks.{FragmentFields, Facts, fragment_in, payload_of, fragment_checks}
 use Rattle.reassembly.specs.Engine.{slot_for, facts_in, fragment_taken, fragment_refusal, fragment_of, fragment_answer, FragmentGives}
 use Rattle.reassembly.specs.Ledger.{fragment, expiry, release, Report, refusing, dropping, Message, After, drop_those, joining, ledger_refusal, ledger_effect, ledger_step}
 use Rattle.reassembly.specs.Runs.{fragment_report, sweep_report}

@@ -5,8 +5,6 @@ use Rattle.std.specs.Prelude.{ℕ, ◌+◌, Bool, true, false, not, ◌&&◌, �
 use Rattle.refusals.specs.Check.{pick, Check, check}
 use Rattle.header.specs.Header.{read_refusal, header_of, header_length}
 use Rattle.slots.specs.Slots.{lid_in_range, lowest_number, slot_octets}
-use Rattle.reassembly.specs.declared.FragmentFields.{FragmentFields}
-use Rattle.reassembly.specs.declared.Facts.{Facts}
 
 -- ---- limits
 
@@ -27,6 +25,21 @@ abbrev pub last_counter : ℕ
 last_counter = 65535
 
 -- ---- a fragment
+
+-- what the checks ask of a fragment: whether its header is valid, its fields, and the octets of its payload
+pub record FragmentFields : Type 0 where
+  pub octets : ℕ
+  pub counter : ℕ
+  pub number : ℕ
+  pub valid : Bool
+  pub last : Bool
+
+-- what they ask of its pair: whether it is open, the expected counter, the octets held; and whether no slot is free
+pub record Facts : Type 0 where
+  pub held : ℕ
+  pub expected : ℕ
+  pub is_open : Bool
+  pub full : Bool
 
 -- what stands behind the header
 unfoldable pub payload_of : List ℕ → List ℕ

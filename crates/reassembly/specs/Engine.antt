@@ -8,11 +8,10 @@ use Rattle.refusals.specs.Refusal.{number_of, answer_of}
 use Rattle.slots.specs.declared.Slot.{Slot}
 use Rattle.slots.specs.declared.Table.{Table}
 use Rattle.slots.specs.Slots.{slot_octets, free, is_busy, index_of, is_full, lowest_free, table_of, is_sound}
-use Rattle.reassembly.specs.declared.Facts.{Facts}
 use Rattle.reassembly.specs.declared.Accepted.{Accepted}
 use Rattle.reassembly.specs.declared.Accepted.TheVariants.{Held, Whole}
 use Rattle.reassembly.specs.declared.Change.{Change}
-use Rattle.reassembly.specs.Checks.{fragment_in, payload_of, fragment_checks}
+use Rattle.reassembly.specs.Checks.{Facts, fragment_in, payload_of, fragment_checks}
 
 -- what an accepted fragment call answers: the message is held or whole, with its octets; and the octets dropped
 pub data Taken : Type 0 where

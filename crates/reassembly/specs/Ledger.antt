@@ -5,8 +5,7 @@ use Rattle.std.specs.Prelude.{ℕ, Bool, true, false, not, ◌&&◌, List, [], �
 use Rattle.refusals.specs.Check.{pick, Check, first_of}
 use Rattle.slots.specs.Slots.{slot_count, total}
 use Rattle.slots.specs.Sweep.{is_aged, expiry_checks, release_checks}
-use Rattle.reassembly.specs.declared.Facts.{Facts}
-use Rattle.reassembly.specs.Checks.{fragment_in, payload_of, fragment_checks}
+use Rattle.reassembly.specs.Checks.{Facts, fragment_in, payload_of, fragment_checks}
 
 -- what the ledger sees of a call: output is a length
 pub data Call : Type 0 where

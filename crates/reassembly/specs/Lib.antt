@@ -8,3 +8,4 @@ pub mod FragmentCases
 pub mod Holding
 pub mod Demand3
 pub mod Accept
+pub mod Asked

@@ -1,11 +1,12 @@
-// The checks of a fragment call, in the order of 01's table: 1 to 4, then 5 to 12.
+// The checks of a fragment call, in the order of 01's table: 1 to 4, then, of a header that is valid, 6 to 12.
 ghost use Rattle.std.specs.Prelude.{◌≡◌, ◌+◌, ◌&&◌, not, ◌++◌, eqb, ltb};
 ghost use Rattle.refusals.specs.Check.{pick, first_of};
 ghost use Rattle.refusals.specs.Refusal.{refused_by};
 ghost use Rattle.slots.specs.Slots.{slot_octets};
+ghost use Rattle.reassembly.specs.Asked.{fields_of, asked};
 ghost use Rattle.reassembly.specs.Checks.{last_counter, lsdu_checks, header_checks, pair_checks};
 
-use crate::{Facts, FragmentFields};
+use crate::{FragmentRead, PairFacts};
 use refusals::Refusal;
 
 // The refusal 1 to 4 that applies first.
@@ -41,44 +42,56 @@ fn exceeds(held: usize, payload: usize) -> bool
 }
 
 // 8: a counter above 0, and the pair is not open.
-fn is_not_open(fragment: FragmentFields, facts: Facts) -> bool
-    ensures { result ≡ (ltb 0 fragment.counter && not facts.is_open) }
+fn is_not_open(fragment: FragmentRead, facts: PairFacts) -> bool
+    ensures { result ≡ (ltb 0 fragment.header.counter && not (asked facts).is_open) }
 {
-    0 < fragment.counter && !facts.is_open
+    0 < fragment.header.counter && facts.slot.is_none()
 }
 
 // 9: counter 0, not last, the pair is not open, and no slot is free.
-fn is_out_of_slots(fragment: FragmentFields, facts: Facts) -> bool
-    ensures { result ≡ (eqb fragment.counter 0 && not fragment.last && not facts.is_open && facts.full) }
+fn is_out_of_slots(fragment: FragmentRead, facts: PairFacts) -> bool
+    ensures { result ≡ (eqb fragment.header.counter 0 && not fragment.header.last && not (asked facts).is_open && facts.full) }
 {
-    fragment.counter == 0 && !fragment.last && !facts.is_open && facts.full
+    fragment.header.counter == 0 && !fragment.header.last && facts.slot.is_none() && facts.full
 }
 
 // 10: the pair is open, and the counter is above 0 and not the expected one.
-fn is_unexpected(fragment: FragmentFields, facts: Facts) -> bool
-    ensures { result ≡ (facts.is_open && ltb 0 fragment.counter && not (eqb fragment.counter facts.expected)) }
+fn is_unexpected(fragment: FragmentRead, facts: PairFacts) -> bool
+    ensures { result ≡ ((asked facts).is_open && ltb 0 fragment.header.counter && not (eqb fragment.header.counter (asked facts).expected)) }
 {
-    facts.is_open && 0 < fragment.counter && fragment.counter != facts.expected
+    match facts.slot {
+        Some(slot) => 0 < fragment.header.counter && fragment.header.counter != slot.next,
+        None => false,
+    }
 }
 
 // 11: the highest counter as expected, and not last.
-fn is_exhausted(fragment: FragmentFields, facts: Facts) -> bool
-    ensures { result ≡ (eqb fragment.counter last_counter && eqb fragment.counter facts.expected && not fragment.last) }
+fn is_exhausted(fragment: FragmentRead, facts: PairFacts) -> bool
+    ensures { result ≡ (eqb fragment.header.counter last_counter && eqb fragment.header.counter (asked facts).expected && not fragment.header.last) }
 {
-    fragment.counter == crate::LAST_COUNTER && fragment.counter == facts.expected && !fragment.last
+    match facts.slot {
+        Some(slot) => {
+            fragment.header.counter == crate::LAST_COUNTER && fragment.header.counter == slot.next
+                && !fragment.header.last
+        },
+        None => false,
+    }
 }
 
 // 12: the octets held, none for counter 0, and the payload are more than a slot holds.
-fn is_too_long(fragment: FragmentFields, facts: Facts) -> bool
-    ensures { result ≡ ltb slot_octets (pick (eqb fragment.counter 0) 0 facts.held + fragment.octets) }
+fn is_too_long(fragment: FragmentRead, facts: PairFacts) -> bool
+    ensures { result ≡ ltb slot_octets (pick (eqb fragment.header.counter 0) 0 (asked facts).held + fragment.octets) }
 {
-    let held = if fragment.counter == 0 { 0 } else { facts.held };
+    let held = match facts.slot {
+        Some(slot) if fragment.header.counter != 0 => slot.held as usize,
+        _ => 0,
+    };
     exceeds(held, fragment.octets)
 }
 
 // The refusal 8 to 12 that applies first.
-fn check_pair(fragment: FragmentFields, facts: Facts) -> Result<(), Refusal>
-    ensures { refused_by result ≡ first_of (pair_checks fragment facts) }
+fn check_pair(fragment: FragmentRead, facts: PairFacts) -> Result<(), Refusal>
+    ensures { refused_by result ≡ first_of (pair_checks (fields_of fragment) (asked facts)) }
 {
     if is_not_open(fragment, facts) {
         return Err(Refusal::NotOpen);
@@ -98,14 +111,11 @@ fn check_pair(fragment: FragmentFields, facts: Facts) -> Result<(), Refusal>
     Ok(())
 }
 
-// The refusal 5 to 12 that applies first.
-pub(crate) fn check_fragment(fragment: FragmentFields, facts: Facts) -> Result<(), Refusal>
-    ensures { refused_by result ≡ first_of (header_checks fragment ++ pair_checks fragment facts) }
+// The refusal 6 to 12 that applies first.
+pub(crate) fn check_fragment(fragment: FragmentRead, facts: PairFacts) -> Result<(), Refusal>
+    ensures { refused_by result ≡ first_of (header_checks (fields_of fragment) ++ pair_checks (fields_of fragment) (asked facts)) }
 {
-    if !fragment.valid {
-        return Err(Refusal::HeaderNotValid);
-    }
-    if fragment.number < slots::LOWEST_NUMBER {
+    if fragment.header.number < slots::LOWEST_NUMBER {
         return Err(Refusal::NumberReserved);
     }
     if fragment.octets == 0 {

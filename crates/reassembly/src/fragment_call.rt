@@ -1,5 +1,9 @@
 // The fragment call: checks 1 to 12 in their order, then the fragment is taken.
-ghost use Rattle.std.specs.Prelude.{◌≡◌};
+ghost use Rattle.std.specs.Prelude.{◌≡◌, false};
+ghost use Rattle.refusals.specs.Check.{pick};
+ghost use Rattle.refusals.specs.Refusal.{refused_by};
+ghost use Rattle.slots.specs.Slots.{free, is_busy};
+ghost use Rattle.reassembly.specs.Asked.{fields_in, asked};
 ghost use Rattle.reassembly.specs.Checks.{fragment_in};
 ghost use Rattle.reassembly.specs.Engine.{facts_from, ChangeGives, FragmentGives};
 ghost use Rattle.reassembly.specs.Demand3.{Demanded};
@@ -7,41 +11,29 @@ ghost use Rattle.reassembly.specs.Runs.{RunsExist};
 
 use crate::accept::accept;
 use crate::checks::{check_fragment, check_lsdu};
-use crate::{Accepted, Arrival, Change, Facts, FragmentFields};
-use header::HeaderRead;
+use crate::{Accepted, Arrival, Change, FragmentRead, PairFacts};
 use refusals::Refusal;
 use slots::{Slot, Table};
 
-// The fragment of an LSDU, as its header gives it.
-fn fragment_in(lsdu: &[u8]) -> FragmentFields
-    ensures { result ≡ fragment_in lsdu.now }
+// The fragment of an LSDU, as its header gives it. Refused 5 for a header that is not valid.
+fn fragment_in(lsdu: &[u8]) -> Result<FragmentRead, Refusal>
+    ensures fields { fields_in result ≡ fragment_in lsdu.now }
+    ensures refusal { refused_by result ≡ pick (fragment_in lsdu.now).valid 0 5 }
 {
-    match header::read(lsdu) {
-        Ok(HeaderRead { header, size }) => FragmentFields {
-            valid: true,
-            last: header.last,
-            number: header.number,
-            counter: header.counter,
-            octets: lsdu.len() - size,
-        },
-        Err(_) => FragmentFields {
-            valid: false,
-            last: false,
-            number: 0,
-            counter: 0,
-            octets: 0,
-        },
-    }
+    let read = header::read(lsdu)?;
+    Ok(FragmentRead {
+        header: read.header,
+        octets: lsdu.len() - read.size,
+    })
 }
 
-// The facts of a pair, whose slot this is.
-fn facts_of(slot: Slot, table: Table) -> Facts
-    ensures { result ≡ facts_from slot table }
+// The facts of a pair, whose slot this is: a free one if it is not open.
+fn facts_of(slot: Slot, table: Table) -> PairFacts
+    requires { is_busy slot ≡ false → slot ≡ free }
+    ensures { asked result ≡ facts_from slot table }
 {
-    Facts {
-        is_open: slot.next != 0,
-        expected: slot.next,
-        held: slot.held as usize,
+    PairFacts {
+        slot: if slot.next != 0 { Some(slot) } else { None },
         full: slots::is_full(table),
     }
 }
@@ -65,8 +57,9 @@ pub fn fragment_change(
         lid,
         lsdu.len(),
     )?;
-    let fragment = fragment_in(lsdu);
-    let number = fragment.number;
+    let fragment = fragment_in(lsdu)?;
+    let header = fragment.header;
+    let number = header.number;
     let index = slots::find(table, lid, number);
     let slot = slots::slot_at(table, index);
     check_fragment(fragment, facts_of(slot, table))?;
@@ -76,8 +69,8 @@ pub fn fragment_change(
         lid,
         number,
         tick,
-        last: fragment.last,
-        begins: fragment.counter == 0,
+        last: header.last,
+        begins: header.counter == 0,
         index,
     };
     let lowest = slots::lowest_free(table);

@@ -8,6 +8,7 @@ mod checks;
 mod copy;
 mod fragment_call;
 
+use header::Header;
 use slots::Slot;
 
 // The limits of a call; those of the slots are in the crate `slots`.
@@ -27,27 +28,22 @@ pub enum Accepted {
     Whole { octets: usize, dropped: usize },
 }
 
-// What the checks ask of a fragment: whether its header is valid, its fields, and the octets of its payload.
-#[derive(Clone, Copy)]
-pub(crate) struct FragmentFields {
+// What the checks ask of a fragment: its header, and the octets of its payload.
+#[derive(Clone, Copy, Debug, PartialEq, Eq)]
+pub(crate) struct FragmentRead {
+    pub header: Header,
     pub octets: usize,
-    pub counter: u32,
-    pub number: u8,
-    pub valid: bool,
-    pub last: bool,
 }
 
-// What the checks ask of its pair: whether it is open, the expected counter, the octets held; and whether no slot is free.
-#[derive(Clone, Copy)]
-pub(crate) struct Facts {
-    pub held: usize,
-    pub expected: u32,
-    pub is_open: bool,
+// What the checks ask of its pair: its slot if it is open; and whether no slot is free.
+#[derive(Clone, Copy, Debug, PartialEq, Eq)]
+pub(crate) struct PairFacts {
+    pub slot: Option<Slot>,
     pub full: bool,
 }
 
 // A fragment that no check refused, with the index of its pair's slot.
-#[derive(Clone, Copy)]
+#[derive(Clone, Copy, Debug, PartialEq, Eq)]
 pub(crate) struct Arrival {
     pub index: usize,
     pub lid: u32,

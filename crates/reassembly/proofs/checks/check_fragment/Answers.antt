@@ -4,18 +4,14 @@ use borrow.Author.Tests.{eq-eqb, ne_eqb, lt-ltb, le-ltb}
 use Rattle.refusals.specs.Check.{first_of}
 use Rattle.reassembly.proofs.checks.check_fragment.Goals as goal
 
-pub returns-then-not-fragment : goal.returns-then-not-fragment
-unfolding first_of
-returns-then-not-fragment c = simp c.if-not-fragment.true
-
 pub returns-then-fragment-lt-LOWEST_NUMBER : goal.returns-then-fragment-lt-LOWEST_NUMBER
 unfolding first_of
-returns-then-fragment-lt-LOWEST_NUMBER c = simp (c.if-not-fragment.false, lt-ltb _ _ c.if-fragment-lt-LOWEST_NUMBER.true)
+returns-then-fragment-lt-LOWEST_NUMBER c = simp (lt-ltb _ _ c.if-fragment-lt-LOWEST_NUMBER.true)
 
 pub returns-then-fragment-eq0 : goal.returns-then-fragment-eq0
 unfolding first_of
-returns-then-fragment-eq0 c = simp (c.if-not-fragment.false, le-ltb _ _ c.if-fragment-lt-LOWEST_NUMBER.false, eq-eqb _ _ c.if-fragment-eq0.true)
+returns-then-fragment-eq0 c = simp (le-ltb _ _ c.if-fragment-lt-LOWEST_NUMBER.false, eq-eqb _ _ c.if-fragment-eq0.true)
 
 pub returns : goal.returns
 unfolding first_of
-returns c = c.check_pair.ensures ∙ rw (c.if-not-fragment.false, le-ltb _ _ c.if-fragment-lt-LOWEST_NUMBER.false, ne_eqb _ _ c.if-fragment-eq0.false)
+returns c = c.check_pair.ensures ∙ rw (le-ltb _ _ c.if-fragment-lt-LOWEST_NUMBER.false, ne_eqb _ _ c.if-fragment-eq0.false)
