@@ -71,7 +71,8 @@ fn is_exhausted(fragment: FragmentRead, facts: PairFacts) -> bool
 {
     match facts.slot {
         Some(slot) => {
-            fragment.header.counter == crate::LAST_COUNTER && fragment.header.counter == slot.next
+            fragment.header.counter == crate::LAST_COUNTER
+                && fragment.header.counter == slot.next
                 && !fragment.header.last
         },
         None => false,

@@ -9,7 +9,7 @@ use crate::word::word;
 use crate::{Slot, Table};
 use refusals::Refusal;
 
-// Which slots go: those of an age, or those of a LID.
+// Which slots go: those of an age, or those of a LID. A value and no closure, since the contracts below name the test.
 #[derive(Clone, Copy, Debug, PartialEq, Eq)]
 pub(crate) enum Sweep {
     Aged { tick: u32, limit: u32 },
