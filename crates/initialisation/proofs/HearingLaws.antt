@@ -2,7 +2,7 @@
 -- Assumes nothing.
 use Rattle.std.proofs.Common.{◌≡◌, ℕ, ◌^◌, ◌<◌, ◌≤◌, Bool, true, false, not, ◌&&◌, eqb, ltb, leb, List, [], ◌∷◌, length, sym, ap, ◌∙◌, arith, ltb-false, eq-eqb, ne_eqb, leb-true}
 use borrow.Author.Tests.{not-false}
-use Rattle.refusals.specs.Check.{pick, check, first_of}
+use Rattle.refusals.specs.Check.{check, first_of}
 use Rattle.refusals.proofs.Tests.{by_test, first_none}
 use Rattle.bits.specs.Strings.{is_inside, string_at}
 use Rattle.apdu_format.proofs.Tests.{both as both_true}
@@ -18,14 +18,14 @@ use Rattle.initialisation.specs.declared.records.Element.{Element}
 use Rattle.initialisation.specs.declared.records.Elements.{Elements}
 use Rattle.initialisation.specs.Link.{lid_in_range, link_in_range}
 use Rattle.initialisation.specs.Elements.{element_sound, none_has, each_sound, own_elements, elements_sound}
-use Rattle.std.specs.Prelude.{Option, None, Some, Result, Ok, Err}
+use Rattle.std.specs.Prelude.{Option, None, Some, Ok, Err}
 use Rattle.refusals.specs.declared.Refusal.{Refusal}
 use Rattle.refusals.specs.declared.Refusal.TheVariants as refusal
 use Rattle.refusals.specs.Refusal.{number_of}
 use Rattle.initialisation.specs.Offer.{or_else, first_served, profile_of, offered_by, element_of, pair_of}
 use Rattle.initialisation.specs.Known.{is_known}
 use Rattle.initialisation.specs.declared.hearing.Taken.{Taken}
-use Rattle.initialisation.specs.Hearing.{Call, configuration_in_range, records_in_range, hearing_checks, hearing_refusal, both, beacon_of, sent_for, sent, woken, reply_of, heard_of, BstGives}
+use Rattle.initialisation.specs.Hearing.{Call, configuration_in_range, records_in_range, hearing_checks, hearing_refusal, both, beacon_of, sent_for, sent, woken, heard_of, BstGives}
 use Rattle.initialisation.specs.Searching.{Sends}
 use Rattle.initialisation.proofs.BstLaws.{profiles_inside, time_fits}
 use Rattle.initialisation.proofs.VstLaws.{Sendable}

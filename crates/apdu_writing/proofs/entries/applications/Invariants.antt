@@ -1,6 +1,6 @@
 -- The loop has written the first i entries, and knows how many rows they use.
 -- Assumes nothing.
-use Prim.Native.Nat.{◌≤◌, ◌-◌, ◌+◌, ◌*◌}
+use Prim.Native.Nat.{◌≤◌, ◌+◌, ◌*◌}
 use mathlib.Core.Path.{◌≡◌}
 use lib.ListN.{length, take, drop}
 use Rattle.apdu_writing.proofs.EntryLists.{Turns}

@@ -1,6 +1,5 @@
 -- The loop has written the first i rows, and what they leave due.
 -- Assumes nothing.
-use Prim.Native.Nat.{◌≤◌, ◌-◌}
 use mathlib.Core.Path.{◌≡◌}
 use lib.ListN.{length, take, drop}
 use Rattle.apdu_writing.proofs.RowLists.{Run}
