@@ -28,17 +28,11 @@ impl Printer {
     }
 
     fn append_line(&mut self, number: u64, columns: Columns) -> Result<(), Refusal> {
-        let Columns {
-            answer,
-            octets,
-            dropped,
-            ..
-        } = columns;
         self.place = bench_lines::append_answer(
             number,
-            answer,
-            octets,
-            dropped,
+            columns.answer,
+            columns.octets,
+            columns.dropped,
             &mut self.text,
             self.place,
         )?;

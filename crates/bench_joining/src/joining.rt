@@ -13,6 +13,7 @@ use slots::Table;
 pub fn shown(answer: Result<Accepted, Refusal>, lid: u32, lsdu: &[u8], after: Table) -> Columns
     ensures { result ≡ columns_after answer lid lsdu.now after }
 {
+    // A header that is not valid has no number: what is shown is then that of number 0 and no payload.
     let (number, payload) = match header::read(lsdu) {
         Ok(read) => (read.header.number, lsdu.len() - read.size),
         Err(_) => (0, 0),
