@@ -10,7 +10,7 @@ pub fn packed(number: u8, kind: u8, first: usize, second: usize) -> u64
     ensures answer { result ≡ answer_number number kind first second }
     ensures unpacking { UnpackingAnswer }
 {
-    let low = number as u64 + 256 * (kind as u64);
+    let low = u64::from(number) + 256 * u64::from(kind);
     let high = (first as u64) % BOUND + BOUND * ((second as u64) % BOUND);
     low + 65536 * high
 }

@@ -1,10 +1,10 @@
 // Attribute rows as words, five each: id, area (0 factory, 1 writable), start, length, and whether it is protected (0: not).
-ghost use Rattle.std.specs.Prelude.{◌≡◌, ◌*◌, ◌<◌, ◌^◌, replicate};
+ghost use Rattle.std.specs.Prelude.{◌≡◌, ◌<◌, ◌^◌, replicate};
 ghost use Rattle.directory.specs.Directory.{no_row};
 ghost use Rattle.directory.specs.Gathered.{list_of};
-ghost use Rattle.words.specs.RowWords.{id_in, area_word, row_at, rows_in, with_part, UnpackingRows, OtherRowsLength, LargeId, OtherArea, PartPut};
+ghost use Rattle.words.specs.RowWords.{id_in, row_at, rows_in, with_part, UnpackingRows, OtherRowsLength, LargeId, OtherArea, PartPut};
 
-use crate::word::{narrow, narrow_word, put, word};
+use crate::word::{narrow, narrow_word, word};
 use directory::{Directory, Row};
 
 const ROW_WORDS: usize = 5;
@@ -14,20 +14,17 @@ const PART_WORDS: usize = 3;
 const NOT_AN_ID: u8 = 255;
 
 // An id that is narrowed, or none in an area that is none.
+#[tactic(auto, unfolding(crate::specs::RowWords::id_in))]
 fn id_in(id: u32, area: u32) -> u8
     ensures { result ≡ id_in id area }
 {
-    if area < 2 {
-        return narrow(id);
-    }
-    NOT_AN_ID
+    if area < 2 { narrow(id) } else { NOT_AN_ID }
 }
 
-fn row_in(words: &[u32], i: usize) -> Row
-    requires { i < 2 ^ 60 }
-    ensures { result ≡ row_at words.now (5 * i) }
+fn row_in(words: &[u32], at: usize) -> Row
+    requires { at < 2 ^ 60 }
+    ensures { result ≡ row_at words.now at }
 {
-    let at = ROW_WORDS * i;
     let area = word(words, at + 1);
     Row {
         id: id_in(word(words, at), area),
@@ -39,12 +36,14 @@ fn row_in(words: &[u32], i: usize) -> Row
 }
 
 // A directory that is not sound.
+#[tactic(auto, unfolding(directory::specs::Gathered::list_of))]
 fn not_sound() -> Directory
     ensures { list_of result ≡ replicate 33 no_row }
 {
-    let mut d = directory::empty();
-    d.count = directory::MOST_ROWS + 1;
-    d
+    Directory {
+        count: directory::MOST_ROWS + 1,
+        ..directory::empty()
+    }
 }
 
 // The directory that the words are; one that is not sound where a word is left over, or there are more than 32 rows.
@@ -55,28 +54,16 @@ pub fn directory_in(words: &[u32]) -> Directory
     ensures large_id { LargeId }
     ensures other_area { OtherArea }
 {
-    if words.len() % ROW_WORDS != 0 {
-        return not_sound();
-    }
     let n = words.len() / ROW_WORDS;
-    if directory::MOST_ROWS < n {
+    if words.len() % ROW_WORDS != 0 || directory::MOST_ROWS < n {
         return not_sound();
     }
     let mut d = directory::empty();
-    let mut i: usize = 0;
-    while i < n {
-        let row = row_in(words, i);
-        d.rows[i] = row;
-        i += 1;
+    for i in 0..n {
+        d.rows[i] = row_in(words, ROW_WORDS * i);
     }
     d.count = n;
     d
-}
-
-fn area_word(writable: bool) -> u32
-    ensures { result ≡ area_word writable }
-{
-    if writable { 1 } else { 0 }
 }
 
 // Puts a row's area, start and length to the front, where there are three words for them.
@@ -84,10 +71,11 @@ pub fn put_part(row: Row, part: &mut [u32])
     ensures answer { part.new ≡ with_part row part.old }
     ensures part { PartPut }
 {
-    if part.len() < PART_WORDS {
-        return;
+    if let Some(part) = part.get_mut(..PART_WORDS) {
+        part.copy_from_slice(&[
+            u32::from(row.writable),
+            narrow_word(row.start as u64),
+            narrow_word(row.length as u64),
+        ]);
     }
-    put(part, 0, area_word(row.writable));
-    put(part, 1, narrow_word(row.start as u64));
-    put(part, 2, narrow_word(row.length as u64));
 }

@@ -3,6 +3,7 @@ ghost use Rattle.std.specs.Prelude.{◌≡◌, ◌≤◌};
 ghost use Rattle.words.specs.ElementWords.{element_at, element_count, elements_in, UnpackingElements, OtherElementsLength, LargeElement};
 
 use crate::word::{narrow, word};
+use std::array;
 use initialisation::{Element, Elements};
 
 const ELEMENT_WORDS: usize = 4;
@@ -22,17 +23,15 @@ fn element_in(words: &[u32], at: usize) -> Element
 }
 
 // How many elements there are; 9, which no call takes, where there are more than 8 or a word is left over.
+#[tactic(auto, unfolding(crate::specs::ElementWords::element_count))]
 fn count_in(words: usize) -> usize
     ensures { result ≡ element_count words }
 {
-    if words % ELEMENT_WORDS != 0 {
-        return MOST_ELEMENTS + 1;
+    if words % ELEMENT_WORDS == 0 && words / ELEMENT_WORDS <= MOST_ELEMENTS {
+        words / ELEMENT_WORDS
+    } else {
+        MOST_ELEMENTS + 1
     }
-    let count = words / ELEMENT_WORDS;
-    if MOST_ELEMENTS < count {
-        return MOST_ELEMENTS + 1;
-    }
-    count
 }
 
 // The elements that the words are.
@@ -42,16 +41,8 @@ pub fn elements_in(words: &[u32]) -> Elements
     ensures other_length { OtherElementsLength }
     ensures large_element { LargeElement }
 {
-    let count = count_in(words.len());
-    let list = [
-        element_in(words, 0),
-        element_in(words, 4),
-        element_in(words, 8),
-        element_in(words, 12),
-        element_in(words, 16),
-        element_in(words, 20),
-        element_in(words, 24),
-        element_in(words, 28),
-    ];
-    Elements { list, count }
+    Elements {
+        list: array::from_fn(|i| element_in(words, ELEMENT_WORDS * i)),
+        count: count_in(words.len()),
+    }
 }

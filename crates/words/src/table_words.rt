@@ -5,13 +5,14 @@ ghost use Rattle.words.specs.TableWords.{slot_put, slot_in, slots_in, table_in, 
 ghost use Rattle.words.specs.TableWords.{UnpackingTable, UnpackingPutTable, UnpackingChange, OtherTableLength, FirstTable};
 
 use crate::word::{put, word};
+use std::array;
 use slots::{Slot, Table};
 
 pub const TABLE_WORDS: usize = 41;
 
 const SLOT_WORDS: usize = 5;
 // A busy word that no sound table has.
-const NOT_SOUND: u32 = 4294967295;
+const NOT_SOUND: u32 = u32::MAX;
 
 fn slot_in(words: &[u32], at: usize) -> Slot
     requires { at ≤ 36 }
@@ -34,24 +35,15 @@ pub fn table_in(words: &[u32]) -> Table
     ensures first_state { FirstTable }
 {
     if words.len() != TABLE_WORDS {
-        let none = [slots::free_slot(); 8];
         return Table {
             busy: NOT_SOUND,
-            slots: none,
+            ..slots::empty()
         };
     }
-    let busy = word(words, 0);
-    let slots = [
-        slot_in(words, 1),
-        slot_in(words, 6),
-        slot_in(words, 11),
-        slot_in(words, 16),
-        slot_in(words, 21),
-        slot_in(words, 26),
-        slot_in(words, 31),
-        slot_in(words, 36),
-    ];
-    Table { busy, slots }
+    Table {
+        busy: word(words, 0),
+        slots: array::from_fn(|i| slot_in(words, 1 + SLOT_WORDS * i)),
+    }
 }
 
 // Puts a slot's words from place `at` on, where they fit.
@@ -75,11 +67,8 @@ pub fn put_table(table: Table, words: &mut [u32])
         return;
     }
     put(words, 0, table.busy);
-    let mut i: usize = 0;
-    while i < 8 {
-        let slot = table.slots[i];
-        put_slot(words, 1 + SLOT_WORDS * i, slot);
-        i += 1;
+    for (i, slot) in table.slots.iter().enumerate() {
+        put_slot(words, 1 + SLOT_WORDS * i, *slot);
     }
 }
 
@@ -88,17 +77,11 @@ fn busy_of(words: &[u32]) -> u32
     requires { length words.now ≡ 41 }
     ensures { result ≡ word_of (slots_in words.now) }
 {
-    let mut w: u32 = 0;
-    let mut i: usize = 8;
-    while 0 < i {
-        i -= 1;
-        let next = words[SLOT_WORDS * i + 3];
-        w = w + w;
-        if next != 0 {
-            w += 1;
-        }
+    let mut busy = 0;
+    for i in (0..slots::SLOTS).rev() {
+        busy = 2 * busy + u32::from(words[SLOT_WORDS * i + 3] != 0);
     }
-    w
+    busy
 }
 
 // Puts one slot and the busy word that the slots then have, where there are 41 words.
@@ -109,9 +92,8 @@ pub fn put_change(i: usize, slot: Slot, words: &mut [u32])
     if words.len() != TABLE_WORDS {
         return;
     }
-    if i < 8 {
+    if i < slots::SLOTS {
         put_slot(words, 1 + SLOT_WORDS * i, slot);
     }
-    let busy = busy_of(words);
-    put(words, 0, busy);
+    words[0] = busy_of(words);
 }

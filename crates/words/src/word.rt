@@ -6,18 +6,15 @@ ghost use Rattle.words.specs.Word.{narrow_to};
 pub(crate) fn word(words: &[u32], i: usize) -> u32
     ensures { result ≡ get_or words.now i 0 }
 {
-    if i < words.len() {
-        return words[i];
-    }
-    0
+    words.get(i).copied().unwrap_or(0)
 }
 
 // Sets word `i`; past the end nothing changes.
 pub(crate) fn put(words: &mut [u32], i: usize, x: u32)
     ensures { words.new ≡ set words.old i x }
 {
-    if i < words.len() {
-        words[i] = x;
+    if let Some(word) = words.get_mut(i) {
+        *word = x;
     }
 }
 
@@ -25,12 +22,12 @@ pub(crate) fn put(words: &mut [u32], i: usize, x: u32)
 pub fn narrow(x: u32) -> u8
     ensures { result ≡ narrow_to 8 x }
 {
-    if 255 < x { 255 } else { x as u8 }
+    u8::try_from(x).unwrap_or(u8::MAX)
 }
 
 // A word; the largest for a larger number.
 pub(crate) fn narrow_word(x: u64) -> u32
     ensures { result ≡ narrow_to 32 x }
 {
-    if 4294967295 < x { 4294967295 } else { x as u32 }
+    u32::try_from(x).unwrap_or(u32::MAX)
 }

@@ -8,6 +8,3 @@ use Rattle.words.proofs.table_words.busy_of.Given as goal
 
 abbrev pub invariant-loop-i : goal.invariant-loop-i
 invariant-loop-i l = (l.i ≤ 8) × (l.w ≡ word_of (drop l.i (slots_in l.words)))
-
-abbrev pub decreases-loop-i : goal.decreases-loop-i
-decreases-loop-i l = l.i
