@@ -1,6 +1,6 @@
 -- What the private functions compute and what they ask of a request that was read. Of these public contracts cite only tag_of, a tag from its parts.
 -- Assumes nothing.
-use Rattle.std.specs.Prelude.{ℕ, ◌+◌, ◌*◌, ◌≤◌, ◌≡◌, List, length, take}
+use Rattle.std.specs.Prelude.{ℕ, ◌+◌, ◌*◌, ◌≤◌, ◌≡◌, Result, Ok, Err, List, length, take}
 use Rattle.apdu.specs.declared.records.GetRequest.{GetRequest}
 use Rattle.apdu.specs.declared.records.SetRequest.{SetRequest}
 use Rattle.apdu.specs.declared.records.Message.{Message}
@@ -8,6 +8,8 @@ use Rattle.apdu.specs.declared.records.Message.TheVariants as kind
 use Rattle.directory.specs.declared.Row.{Row}
 use Rattle.attributes.specs.declared.answers.RequestOutcome.TheVariants as told
 use Rattle.attributes.specs.declared.answers.RequestAnswer.{RequestAnswer}
+use Rattle.attributes.specs.declared.status.Status.{Status}
+use Rattle.attributes.specs.declared.status.Status.TheVariants as status
 use Rattle.attributes.specs.declared.values.Values.{Values}
 use Rattle.attributes.specs.Serving.{Tag, Reply, effect, sent, told_of, ids_from, rows_of, values_in, attributes_at}
 
@@ -16,6 +18,17 @@ tag_of eid credentials rows factory writable = record { eid = eid; credentials =
 
 abbrev pub unserved : RequestAnswer
 unserved = record { outcome = told.Refused 24 }
+
+-- the number of a status
+abbrev pub number_of : Status → ℕ
+number_of status.AccessDenied = 1
+number_of status.ArgumentError = 2
+number_of status.ComplexityLimitation = 3
+
+-- the status that checks in order give, or 0
+abbrev pub status_of : {A : Type 0} → Result A Status → ℕ
+status_of (Ok a) = 0
+status_of (Err status) = number_of status
 
 -- the answer and the output are those of sending this reply, whatever the writable area
 pub record Sends (reply : Reply) (out : List ℕ) (r : RequestAnswer) (out' : List ℕ) : Type 0 where

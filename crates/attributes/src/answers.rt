@@ -4,10 +4,10 @@ ghost use Rattle.attributes.specs.Serving.{is_echo, served, too_long, told_of};
 ghost use Rattle.attributes.specs.Inside.{Sends};
 
 use apdu::{Message, Request, no_entries};
-use apdu_writing::{ApduWritten, write};
+use apdu_writing::{WriteRefusal, write};
 
 // A refusal's number, with its position where it has one; no reply; or a reply of so many octets at the output's front.
-#[derive(Clone, Copy)]
+#[derive(Clone, Copy, Debug, PartialEq, Eq)]
 pub enum RequestOutcome {
     Refused(u8),
     RefusedAt(u8, usize),
@@ -15,7 +15,7 @@ pub enum RequestOutcome {
     Reply(usize),
 }
 
-#[derive(Clone, Copy)]
+#[derive(Clone, Copy, Debug, PartialEq, Eq)]
 pub struct RequestAnswer {
     pub outcome: RequestOutcome,
 }
@@ -23,39 +23,22 @@ pub struct RequestAnswer {
 // The action type of ECHO.
 const ECHO: u64 = 15;
 
+#[tactic(auto, unfolding(crate::specs::Serving::is_echo))]
 fn is_echo(m: Request) -> bool
     ensures { result ≡ is_echo m }
 {
-    if m.service != ECHO {
-        return false;
-    }
-    if m.eid != 0 {
-        return false;
-    }
-    if !m.mode {
-        return false;
-    }
-    if !m.has_parameter {
-        return false;
-    }
-    m.kind == apdu::OCTET_STRING
+    m.service == ECHO && m.eid == 0 && m.mode && m.has_parameter && m.kind == apdu::OCTET_STRING
 }
 
 // Whether a request is served: GET, SET, ECHO.
+#[tactic(auto, unfolding(crate::specs::Serving::served))]
 pub(crate) fn is_served(m: Message) -> bool
     ensures { result ≡ served m }
 {
     match m {
         Message::ActionRequest(x) => is_echo(x),
-        Message::ActionResponse(_) => false,
-        Message::EventRequest(_) => false,
-        Message::EventResponse(_) => false,
-        Message::SetRequest(_) => true,
-        Message::SetResponse(_) => false,
-        Message::GetRequest(_) => true,
-        Message::GetResponse(_) => false,
-        Message::Bst(_) => false,
-        Message::Vst(_) => false,
+        Message::SetRequest(_) | Message::GetRequest(_) => true,
+        _ => false,
     }
 }
 
@@ -68,33 +51,23 @@ pub(crate) fn send(
 ) -> RequestAnswer
     ensures { Sends (record { message = message; attributes = attributes; lent = lent.now }) out.old result out.new }
 {
-    let entries = no_entries();
-    let written = write(message, attributes, entries, lent, out);
-    match written {
-        ApduWritten::RecordOutOfRange => RequestAnswer {
-            outcome: RequestOutcome::Refused(refusals::RECORD_OUT_OF_RANGE),
-        },
-        ApduWritten::MessageTooLong(p) => RequestAnswer {
-            outcome: RequestOutcome::RefusedAt(refusals::APDU_TOO_LONG, p),
-        },
-        ApduWritten::OutputTooSmall => RequestAnswer {
-            outcome: RequestOutcome::Refused(refusals::OUTPUT_TOO_SMALL),
-        },
-        ApduWritten::Octets(n) => RequestAnswer {
-            outcome: RequestOutcome::Reply(n),
-        },
-    }
+    let outcome = match write(message, attributes, no_entries(), lent, out) {
+        Ok(octets) => RequestOutcome::Reply(octets),
+        Err(WriteRefusal::RecordOutOfRange) => {
+            RequestOutcome::Refused(refusals::RECORD_OUT_OF_RANGE)
+        }
+        Err(WriteRefusal::MessageTooLong(p)) => {
+            RequestOutcome::RefusedAt(refusals::APDU_TOO_LONG, p)
+        }
+        Err(WriteRefusal::OutputTooSmall) => RequestOutcome::Refused(refusals::OUTPUT_TOO_SMALL),
+    };
+    RequestAnswer { outcome }
 }
 
 // Whether a reply was too long to be written.
+#[tactic(auto, unfolding(crate::specs::Serving::too_long, crate::specs::Serving::told_of))]
 pub(crate) fn too_long(a: RequestAnswer) -> bool
     ensures { result ≡ too_long (told_of a.outcome) }
 {
-    let outcome = a.outcome;
-    match outcome {
-        RequestOutcome::Refused(_) => false,
-        RequestOutcome::RefusedAt(k, _) => k == refusals::APDU_TOO_LONG,
-        RequestOutcome::NoReply => false,
-        RequestOutcome::Reply(_) => false,
-    }
+    matches!(a.outcome, RequestOutcome::RefusedAt(refusals::APDU_TOO_LONG, _))
 }

@@ -3,7 +3,7 @@ ghost use Rattle.std.specs.Prelude.{◌≡◌, true, length};
 ghost use Rattle.directory.specs.Directory.{sound_directory};
 ghost use Rattle.directory.specs.Gathered.{list_of};
 ghost use Rattle.attributes.specs.Serving.{Answered, carried, echo_reply, effect, told_of};
-ghost use Rattle.attributes.specs.Inside.{tag_of, Fits, Sends, unserved};
+ghost use Rattle.attributes.specs.Inside.{tag_of, Fits, Sends};
 
 use crate::answers::{RequestAnswer, RequestOutcome, is_served, send};
 use crate::getting::get;
@@ -15,13 +15,9 @@ use directory::{Directory, sound_in};
 // The octets that a reply may need.
 pub const LEAST_OUTPUT: usize = 512;
 
-fn not_served() -> RequestAnswer
-    ensures { result ≡ unserved }
-{
-    RequestAnswer {
-        outcome: RequestOutcome::Refused(refusals::NOT_SERVED),
-    }
-}
+const UNSERVED: RequestAnswer = RequestAnswer {
+    outcome: RequestOutcome::Refused(refusals::NOT_SERVED),
+};
 
 // An ECHO that is served: the same string.
 fn echo(s: &[u8], m: Request, out: &mut [u8]) -> RequestAnswer
@@ -60,15 +56,9 @@ fn carry_out(
 {
     match m {
         Message::ActionRequest(x) => echo(s, x, out),
-        Message::ActionResponse(_) => not_served(),
-        Message::EventRequest(_) => not_served(),
-        Message::EventResponse(_) => not_served(),
         Message::SetRequest(x) => set(s, x, attributes, eid, credentials, d, writable, out),
-        Message::SetResponse(_) => not_served(),
         Message::GetRequest(x) => get(s, x, eid, credentials, d, factory, writable, out),
-        Message::GetResponse(_) => not_served(),
-        Message::Bst(_) => not_served(),
-        Message::Vst(_) => not_served(),
+        _ => UNSERVED,
     }
 }
 
@@ -96,21 +86,18 @@ pub(crate) fn request_in(
             outcome: RequestOutcome::Refused(refusals::LIST_NOT_SOUND),
         };
     }
-    let answer = reading.answer;
-    match answer {
+    match reading.answer {
         Answer::Refused(k, p) => RequestAnswer {
             outcome: RequestOutcome::RefusedAt(k, p),
         },
         Answer::Message(m) => {
             if !is_served(m) {
-                return not_served();
+                return UNSERVED;
             }
-            let lists = reading.lists;
-            let attributes = lists.rows;
             carry_out(
                 s,
                 m,
-                attributes,
+                reading.lists.rows,
                 eid,
                 credentials,
                 d,

@@ -3,15 +3,10 @@ ghost use Rattle.std.specs.Prelude.{◌≡◌};
 ghost use Rattle.attributes.specs.Serving.{exact};
 
 // Whether the request carries exactly the tag's credentials: `n` octets from bit place `start`, if they are given.
+#[tactic(auto, unfolding(crate::specs::Serving::exact))]
 pub(crate) fn are_exact(s: &[u8], credentials: &[u8], given: bool, start: usize, n: u64) -> bool
     ensures { result ≡ exact s.now credentials.now given start n }
 {
-    if !given {
-        return false;
-    }
     let octets = n as usize;
-    if octets != credentials.len() {
-        return false;
-    }
-    bits::same_string(s, start, credentials, 0, octets)
+    given && octets == credentials.len() && bits::same_string(s, start, credentials, 0, octets)
 }

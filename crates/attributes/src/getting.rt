@@ -5,65 +5,56 @@ ghost use Rattle.bits.specs.Bits.{field};
 ghost use Rattle.directory.specs.Directory.{sound_directory};
 ghost use Rattle.directory.specs.Gathered.{list_of};
 ghost use Rattle.attributes.specs.Serving.{ids_from, get_fault, get_faults, get_status, get_reply, get_refusal, getting, effect, told_of};
-ghost use Rattle.attributes.specs.Inside.{tag_of, GetFits, Sends};
+ghost use Rattle.attributes.specs.Inside.{tag_of, GetFits, Sends, number_of, status_of};
 
 use crate::answers::{RequestAnswer, send, too_long};
 use crate::credentials::are_exact;
+use crate::status::Status;
 use crate::values::{gather_values, row_at};
 use apdu::{GetRequest, GetResponse, Message};
 use directory::Directory;
 
-const ACCESS_DENIED: u8 = 1;
-
-const ARGUMENT_ERROR: u8 = 2;
-
-const COMPLEXITY_LIMITATION: u8 = 3;
-
-// The status of the id at a bit place, or 0.
-fn id_status(s: &[u8], at: usize, d: Directory, exact: bool) -> u8
+// The status of the id at a bit place.
+fn check_id(s: &[u8], at: usize, d: Directory, exact: bool) -> Result<(), Status>
     requires { (at ≤ 4096) × (length (list_of d) ≤ 32) }
-    ensures { result ≡ first_of (get_fault (list_of d) exact (field s.now (at + 1) 7)) }
+    ensures { status_of result ≡ first_of (get_fault (list_of d) exact (field s.now (at + 1) 7)) }
 {
-    let found = row_at(s, at, d);
-    if !found.known {
-        return ARGUMENT_ERROR;
-    }
-    let row = found.row;
-    if !row.protected {
-        return 0;
-    }
-    if exact {
-        return 0;
-    }
-    ACCESS_DENIED
-}
-
-// The status of the first faulty one of `count` ids from bit place `ids` on, or 0.
-fn ids_status(s: &[u8], ids: usize, count: usize, d: Directory, exact: bool) -> u8
-    requires { (ids + 8 * count ≤ 4096) × (length (list_of d) ≤ 32) }
-    ensures { result ≡ first_of (get_faults (list_of d) exact (ids_from s.now ids count)) }
-{
-    let mut i: usize = 0;
-    while i < count {
-        let status = id_status(s, ids + 8 * i, d, exact);
-        if status != 0 {
-            return status;
+    match row_at(s, at, d) {
+        None => Err(Status::ArgumentError),
+        Some(row) => {
+            if row.protected && !exact {
+                Err(Status::AccessDenied)
+            } else {
+                Ok(())
+            }
         }
-        i += 1;
     }
-    0
 }
 
-// The return status, or 0.
-fn get_status(s: &[u8], m: GetRequest, eid: u64, credentials: &[u8], d: Directory) -> u8
-    requires { GetFits m × (length (list_of d) ≤ 32) }
-    ensures { result ≡ get_status (tag_of eid credentials.now (list_of d) [] []) s.now m }
+// The status of the first faulty one of `count` ids from bit place `ids` on.
+fn check_ids(s: &[u8], ids: usize, count: usize, d: Directory, exact: bool) -> Result<(), Status>
+    requires { (ids + 8 * count ≤ 4096) × (length (list_of d) ≤ 32) }
+    ensures { status_of result ≡ first_of (get_faults (list_of d) exact (ids_from s.now ids count)) }
 {
-    if m.eid != eid {
-        return ARGUMENT_ERROR;
+    for i in 0..count {
+        check_id(s, ids + 8 * i, d, exact)?;
     }
-    if !m.has_ids {
-        return ARGUMENT_ERROR;
+    Ok(())
+}
+
+// The return status.
+fn check_get(
+    s: &[u8],
+    m: GetRequest,
+    eid: u64,
+    credentials: &[u8],
+    d: Directory,
+) -> Result<(), Status>
+    requires { GetFits m × (length (list_of d) ≤ 32) }
+    ensures { status_of result ≡ get_status (tag_of eid credentials.now (list_of d) [] []) s.now m }
+{
+    if m.eid != eid || !m.has_ids {
+        return Err(Status::ArgumentError);
     }
     let exact = are_exact(
         s,
@@ -72,12 +63,12 @@ fn get_status(s: &[u8], m: GetRequest, eid: u64, credentials: &[u8], d: Director
         m.credentials,
         m.credentials_length,
     );
-    ids_status(s, m.ids, m.count as usize, d, exact)
+    check_ids(s, m.ids, m.count as usize, d, exact)
 }
 
 // A reply with a status and no list.
-fn send_status(s: &[u8], m: GetRequest, status: u8, out: &mut [u8]) -> RequestAnswer
-    ensures { Sends (get_refusal s.now m status) out.old result out.new }
+fn send_status(s: &[u8], m: GetRequest, status: Status, out: &mut [u8]) -> RequestAnswer
+    ensures { Sends (get_refusal s.now m (number_of status)) out.old result out.new }
 {
     let reply = GetResponse {
         fill: 0,
@@ -88,7 +79,7 @@ fn send_status(s: &[u8], m: GetRequest, status: u8, out: &mut [u8]) -> RequestAn
         count: 0,
         rows: 0,
         has_ret: true,
-        ret: status as u64,
+        ret: u64::from(status),
     };
     send(Message::GetResponse(reply), apdu::no_rows(), s, out)
 }
@@ -106,8 +97,6 @@ fn send_values(
     ensures { Sends (get_reply (tag_of 0 [] (list_of d) factory.now writable.now) s.now m) out.old result out.new }
 {
     let values = gather_values(s, m.ids, m.count as usize, d, factory, writable);
-    let attributes = values.attributes;
-    let octets = values.octets;
     let reply = GetResponse {
         fill: 0,
         eid: m.eid,
@@ -119,7 +108,7 @@ fn send_values(
         has_ret: false,
         ret: 0,
     };
-    send(Message::GetResponse(reply), attributes, &octets, out)
+    send(Message::GetResponse(reply), values.attributes, &values.octets, out)
 }
 
 // A GET that is served.
@@ -136,13 +125,12 @@ pub(crate) fn get(
     requires { GetFits m × (sound_directory (length factory.now) (length writable.now) (list_of d) ≡ true) }
     ensures { effect (told_of result.outcome) writable.now out.new ≡ getting (tag_of eid credentials.now (list_of d) factory.now writable.now) s.now m out.old }
 {
-    let status = get_status(s, m, eid, credentials, d);
-    if status != 0 {
+    if let Err(status) = check_get(s, m, eid, credentials, d) {
         return send_status(s, m, status, out);
     }
     let answer = send_values(s, m, d, factory, writable, out);
     if too_long(answer) {
-        return send_status(s, m, COMPLEXITY_LIMITATION, out);
+        return send_status(s, m, Status::ComplexityLimitation, out);
     }
     answer
 }

@@ -11,6 +11,7 @@ mod calls;
 mod credentials;
 mod getting;
 mod setting;
+mod status;
 mod values;
 
 pub use answers::{RequestAnswer, RequestOutcome};

@@ -1,80 +1,67 @@
 // SET: the values of the rows that are named, all or none.
-ghost use Rattle.std.specs.Prelude.{◌≡◌, [], ◌≤◌, length, take, eqb};
-ghost use Rattle.refusals.specs.Check.{first_of, pick};
+ghost use Rattle.std.specs.Prelude.{◌≡◌, [], ◌≤◌, length, take};
+ghost use Rattle.refusals.specs.Check.{first_of};
 ghost use Rattle.directory.specs.Gathered.{list_of};
 ghost use Rattle.attributes.specs.Serving.{set_fault, set_faults, set_status, set_row, set_rows, set_reply, setting, effect, told_of};
-ghost use Rattle.attributes.specs.Inside.{tag_of, SetFits, Sends};
+ghost use Rattle.attributes.specs.Inside.{tag_of, SetFits, Sends, status_of};
 
 use crate::answers::{RequestAnswer, RequestOutcome, send};
 use crate::credentials::are_exact;
+use crate::status::Status;
 use apdu::{Message, Response, SetRequest};
-use directory::{Directory, find};
+use directory::{Directory, NO_ROW, find};
 
-const ACCESS_DENIED: u8 = 1;
+const OCTET_STRING: u8 = apdu::OCTET_STRING as u8;
 
-const ARGUMENT_ERROR: u8 = 2;
-
-const OCTET_STRING: u8 = 2;
-
-// The status of an attribute, or 0.
-fn attribute_status(a: apdu::Row, d: Directory, exact: bool) -> u8
+// The status of an attribute.
+fn check_attribute(a: apdu::Row, d: Directory, exact: bool) -> Result<(), Status>
     requires { length (list_of d) ≤ 32 }
-    ensures { result ≡ first_of (set_fault (list_of d) exact a) }
+    ensures { status_of result ≡ first_of (set_fault (list_of d) exact a) }
 {
-    let found = find(d, a.id as u16);
-    if !found.known {
-        return ARGUMENT_ERROR;
+    match find(d, u16::from(a.id)) {
+        None => Err(Status::ArgumentError),
+        Some(row) => {
+            if a.kind != OCTET_STRING || a.n as usize != row.length {
+                Err(Status::ArgumentError)
+            } else if !row.writable || row.protected && !exact {
+                Err(Status::AccessDenied)
+            } else {
+                Ok(())
+            }
+        }
     }
-    if a.kind != OCTET_STRING {
-        return ARGUMENT_ERROR;
-    }
-    let row = found.row;
-    if a.n as usize != row.length {
-        return ARGUMENT_ERROR;
-    }
-    if !row.writable {
-        return ACCESS_DENIED;
-    }
-    if !row.protected {
-        return 0;
-    }
-    if exact {
-        return 0;
-    }
-    ACCESS_DENIED
 }
 
-// The status of the first faulty one of the first `count` attributes, or 0.
-fn attributes_status(attributes: [apdu::Row; 32], count: usize, d: Directory, exact: bool) -> u8
+// The status of the first faulty one of the first `count` attributes.
+fn check_attributes(
+    attributes: [apdu::Row; 32],
+    count: usize,
+    d: Directory,
+    exact: bool,
+) -> Result<(), Status>
     requires { (count ≤ 32) × (length (list_of d) ≤ 32) }
-    ensures { result ≡ first_of (set_faults (list_of d) exact (take count attributes)) }
+    ensures { status_of result ≡ first_of (set_faults (list_of d) exact (take count attributes)) }
 {
-    let mut i: usize = 0;
-    while i < count {
-        let a = attributes[i];
-        let status = attribute_status(a, d, exact);
-        if status != 0 {
-            return status;
-        }
-        i += 1;
+    for i in 0..count {
+        check_attribute(attributes[i], d, exact)?;
     }
-    0
+    Ok(())
 }
 
 // The return status.
-fn set_status(
+fn check_set(
     s: &[u8],
     m: SetRequest,
     attributes: [apdu::Row; 32],
     eid: u64,
     credentials: &[u8],
     d: Directory,
-) -> u8
+) -> Result<(), Status>
     requires { SetFits m × (length (list_of d) ≤ 32) }
-    ensures { result ≡ set_status (tag_of eid credentials.now (list_of d) [] []) s.now m attributes }
+    ensures { status_of result ≡ set_status (tag_of eid credentials.now (list_of d) [] []) s.now m attributes }
 {
     if m.eid != eid {
-        return ARGUMENT_ERROR;
+        return Err(Status::ArgumentError);
     }
     let exact = are_exact(
         s,
@@ -83,7 +70,7 @@ fn set_status(
         m.credentials,
         m.credentials_length,
     );
-    attributes_status(attributes, m.count as usize, d, exact)
+    check_attributes(attributes, m.count as usize, d, exact)
 }
 
 // Writes the value of an attribute to its row.
@@ -91,8 +78,7 @@ fn set_row(s: &[u8], a: apdu::Row, d: Directory, writable: &mut [u8])
     requires { length (list_of d) ≤ 32 }
     ensures { writable.new ≡ set_row s.now (list_of d) a writable.old }
 {
-    let found = find(d, a.id as u16);
-    let row = found.row;
+    let row = find(d, u16::from(a.id)).unwrap_or(NO_ROW);
     let done = bits::copy_string(s, a.start as usize, a.n as usize, writable, row.start);
 }
 
@@ -101,33 +87,14 @@ fn set_rows(s: &[u8], attributes: [apdu::Row; 32], count: usize, d: Directory, w
     requires { (count ≤ 32) × (length (list_of d) ≤ 32) }
     ensures { writable.new ≡ set_rows s.now (list_of d) (take count attributes) writable.old }
 {
-    let mut i: usize = 0;
-    while i < count {
-        let a = attributes[i];
-        set_row(s, a, d, writable);
-        i += 1;
+    for i in 0..count {
+        set_row(s, attributes[i], d, writable);
     }
 }
 
-// Writes all rows, if no fault was found.
-fn set_all(
-    s: &[u8],
-    status: u8,
-    attributes: [apdu::Row; 32],
-    count: usize,
-    d: Directory,
-    writable: &mut [u8],
-)
-    requires { (count ≤ 32) × (length (list_of d) ≤ 32) }
-    ensures { writable.new ≡ pick (eqb status 0) (set_rows s.now (list_of d) (take count attributes) writable.old) writable.old }
-{
-    if status == 0 {
-        set_rows(s, attributes, count, d, writable);
-    }
-}
-
-fn send_status(s: &[u8], m: SetRequest, status: u8, out: &mut [u8]) -> RequestAnswer
-    ensures { Sends (set_reply s.now m status) out.old result out.new }
+// A reply with a status, which is 0 where no fault was found.
+fn send_status(s: &[u8], m: SetRequest, checked: Result<(), Status>, out: &mut [u8]) -> RequestAnswer
+    ensures { Sends (set_reply s.now m (status_of checked)) out.old result out.new }
 {
     let reply = Response {
         fill: 0,
@@ -135,12 +102,15 @@ fn send_status(s: &[u8], m: SetRequest, status: u8, out: &mut [u8]) -> RequestAn
         has_iid: m.has_iid,
         iid: m.iid,
         has_ret: true,
-        ret: status as u64,
+        ret: match checked {
+            Ok(()) => 0,
+            Err(status) => u64::from(status),
+        },
     };
     send(Message::SetResponse(reply), apdu::no_rows(), s, out)
 }
 
-// A SET that is served.
+// A SET that is served: all rows are written, or none.
 pub(crate) fn set(
     s: &[u8],
     m: SetRequest,
@@ -154,12 +124,14 @@ pub(crate) fn set(
     requires { SetFits m × (length (list_of d) ≤ 32) }
     ensures { effect (told_of result.outcome) writable.new out.new ≡ setting (tag_of eid credentials.now (list_of d) [] writable.old) s.now m attributes out.old }
 {
-    let status = set_status(s, m, attributes, eid, credentials, d);
-    set_all(s, status, attributes, m.count as usize, d, writable);
+    let checked = check_set(s, m, attributes, eid, credentials, d);
+    if checked.is_ok() {
+        set_rows(s, attributes, m.count as usize, d, writable);
+    }
     if !m.mode {
         return RequestAnswer {
             outcome: RequestOutcome::NoReply,
         };
     }
-    send_status(s, m, status, out)
+    send_status(s, m, checked, out)
 }

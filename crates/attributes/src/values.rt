@@ -6,21 +6,13 @@ ghost use Rattle.directory.specs.Gathered.{list_of};
 ghost use Rattle.attributes.specs.Serving.{value_of};
 ghost use Rattle.attributes.specs.Inside.{Gathers};
 
-use directory::{Directory, Row, find};
+use directory::{Directory, NO_ROW, Row, find};
 
 // The values one behind the other, with room for 16 of 127 octets, and the attributes that tell where each stands.
-#[derive(Clone, Copy)]
+#[derive(Clone, Copy, Debug, PartialEq, Eq)]
 pub struct Values {
     pub octets: [u8; 2032],
     pub attributes: [apdu::Row; 32],
-}
-
-// The part of an area, to `out` from `at` on.
-fn put_part(area: &[u8], start: usize, n: usize, out: &mut [u8], at: usize)
-    requires { (start + n ≤ length area.now) × (at + n ≤ length out.old) }
-    ensures { out.new ≡ take at out.old ++ (take n (drop start area.now) ++ drop (at + n) out.old) }
-{
-    let done = bits::copy_string(&area[start..start + n], 0, n, out, at);
 }
 
 // The value of a row, to `out` from `at` on.
@@ -28,17 +20,12 @@ fn put_value(row: Row, factory: &[u8], writable: &[u8], out: &mut [u8], at: usiz
     requires { (row.start + row.length ≤ area_octets (length factory.now) (length writable.now) row) × (at + row.length ≤ length out.old) }
     ensures { out.new ≡ take at out.old ++ (value_of factory.now writable.now row ++ drop (at + row.length) out.old) }
 {
-    let start = row.start;
-    let n = row.length;
-    if row.writable {
-        put_part(writable, start, n, out, at);
-    } else {
-        put_part(factory, start, n, out, at);
-    }
+    let area = if row.writable { writable } else { factory };
+    out[at..at + row.length].copy_from_slice(&area[row.start..row.start + row.length]);
 }
 
 // The row of the id at a bit place, behind its extension bit.
-pub(crate) fn row_at(s: &[u8], at: usize, d: Directory) -> directory::Found
+pub(crate) fn row_at(s: &[u8], at: usize, d: Directory) -> Option<Row>
     requires { at ≤ 4096 }
     ensures { result ≡ finding (list_of d) (field s.now (at + 1) 7) }
 {
@@ -60,19 +47,16 @@ pub(crate) fn gather_values(
     let mut octets: [u8; 2032] = [0; 2032];
     let mut attributes = apdu::no_rows();
     let mut at: usize = 0;
-    let mut i: usize = 0;
-    while i < count {
-        let found = row_at(s, ids + 8 * i, d);
-        let row = found.row;
+    for i in 0..count {
+        let row = row_at(s, ids + 8 * i, d).unwrap_or(NO_ROW);
         put_value(row, factory, writable, &mut octets, at);
         attributes[i] = apdu::Row {
             id: row.id,
-            kind: 2,
+            kind: apdu::OCTET_STRING as u8,
             n: row.length as u16,
             start: (8 * at) as u32,
         };
         at += row.length;
-        i += 1;
     }
     Values { octets, attributes }
 }

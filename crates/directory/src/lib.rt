@@ -35,7 +35,8 @@ pub const LARGEST_ID: u8 = 127;
 
 pub const LONGEST_ROW: usize = 127;
 
-const NO_ROW: Row = Row {
+// The row of an id that is not known.
+pub const NO_ROW: Row = Row {
     start: 0,
     length: 0,
     id: 0,

@@ -21,12 +21,6 @@ use Rattle.words.proofs.Words.{narrow_small}
 
 -- ---- putting
 
--- putting as many words as there are leaves just these
-pub put_all : (vs l : List ℕ) → length l ≡ length vs → sets l 0 vs ≡ vs
-put_all vs l e =
-    let z : 0 + length vs ≡ length l = omega arith in
-    sets-eq vs l 0 (omega arith) ∙ ap (λ (k : ℕ). vs ++ drop k l) z ∙ ap (λ (r : List ℕ). vs ++ r) (drop-length l) ∙ append-nil vs
-
 module _ (link : Link) (words : List ℕ) where
   pub put_none : (length words ≡ 6 → ⊥) → words ≡ with_link link words
   unfolding with_link
@@ -34,10 +28,10 @@ module _ (link : Link) (words : List ℕ) where
 
   pub put_six : {phase lid : ℕ} {beacon : Beacon} {after : List ℕ} → length words ≡ 6
       → phase ≡ phase_number link.phase → beacon ≡ phase_beacon link.phase → lid ≡ phase_lid link.phase
-      → after ≡ sets words 0 (phase ∷ narrow_to 32 beacon.manufacturer ∷ narrow_to 32 beacon.individual ∷ lid ∷ link.time ∷ link.tick ∷ [])
+      → after ≡ phase ∷ narrow_to 32 beacon.manufacturer ∷ narrow_to 32 beacon.individual ∷ lid ∷ link.time ∷ link.tick ∷ []
       → after ≡ with_link link words
   unfolding with_link link_words
-  put_six n p b l e = simp (eq-eqb _ _ n, ← p, ← b, ← l) (e ∙ put_all _ words n)
+  put_six n p b l e = simp (eq-eqb _ _ n, ← p, ← b, ← l) e
 
 -- ---- reading back
 

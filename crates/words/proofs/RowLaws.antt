@@ -4,9 +4,10 @@ use mathlib.Core.Bool.{Bool, true, false}
 use mathlib.Core.List.{List, ◌++◌}
 use Prim.Native.Nat.{ℕ, suc, ◌+◌, ◌*◌, ◌-◌, ◌/◌, ◌%◌, ◌<◌, ◌≤◌, ◌^◌}
 use native.Mathlib.Omega.{arith}
-use lib.ListN.{length, length-set, get_or, set, replicate}
+use lib.ListN.{length, length-set, get_or, set, drop, replicate}
 use lib.Dec.{eqb, ltb, leb}
-use lib.Seq.{sets, sets-eq, get_or-append-add, get_or-append_seam}
+use lib.Seq.{get_or-append-add, get_or-append_seam}
+use mir.Val.{bool_byte}
 use borrow.Author.Tests.{eq-eqb, ne_eqb, lt-ltb, le-ltb, le-leb, lt-leb, eqb-true, eqb-false, leb-true, leb-false}
 use Rattle.refusals.proofs.Tests.{by_test, by_cases, and_left, and_right}
 use Rattle.directory.specs.declared.Row.{Row}
@@ -16,7 +17,7 @@ use Rattle.directory.specs.Gathered.{no_directory, with_row, gathered_from, gath
 use Rattle.directory.proofs.Looking.{with_more, gathered_few}
 use Rattle.words.specs.Items.{words_of, items_from}
 use Rattle.words.specs.Word.{narrow_to}
-use Rattle.words.specs.RowWords.{part_words, with_part, row_words, id_in, row_at, rows_in, UnpackingRows, OtherRowsLength, LargeId, OtherArea, PartPut}
+use Rattle.words.specs.RowWords.{area_word, part_words, with_part, row_words, id_in, row_at, rows_in, UnpackingRows, OtherRowsLength, LargeId, OtherArea, PartPut}
 use Rattle.words.proofs.ItemLaws.{length_items, length_words, items_back, one_unsound}
 use Rattle.words.proofs.Words.{narrow_small, narrow_above, word_inside}
 
@@ -27,9 +28,14 @@ module _ (row : Row) (words : List ℕ) where
   unfolding with_part
   part_none h = simp (lt-ltb _ _ h)
 
-  pub part_some : {after : List ℕ} → 3 ≤ length words → after ≡ sets words 0 (part_words row) → after ≡ with_part row words
-  unfolding with_part part_words
-  part_some h e = e ∙ sets-eq (part_words row) words 0 (omega arith) ∙ simp (le-ltb _ _ h)
+  pub part_some : {after : List ℕ} → 3 ≤ length words → after ≡ part_words row ++ drop 3 words → after ≡ with_part row words
+  unfolding with_part
+  part_some h e = e ∙ simp (le-ltb _ _ h)
+
+-- `u32::from` of a test is its word
+pub area_is : (writable : Bool) → bool_byte writable ≡ area_word writable
+area_is true = refl
+area_is false = refl
 
 pub part_put : PartPut
 unfolding PartPut with_part part_words
@@ -37,11 +43,7 @@ part_put row words s n h = simp (le-ltb _ _ h, ← narrow_small 32 row.start s, 
 
 -- ---- a row
 
-pub id_narrow : (id area : ℕ) {n : ℕ} → area < 2 → n ≡ narrow_to 8 id → n ≡ id_in id area
-unfolding id_in
-id_narrow id area h e = e ∙ simp (lt-ltb _ _ h)
-
-pub id_none : (id area : ℕ) → 2 ≤ area → 255 ≡ id_in id area
+id_none : (id area : ℕ) → 2 ≤ area → 255 ≡ id_in id area
 unfolding id_in
 id_none id area h = simp (le-ltb _ _ h)
 

@@ -2,16 +2,17 @@
 use mathlib.Core.Path.{◌≡◌, refl, sym, ap, ◌∙◌}
 use mathlib.Core.Bool.{not}
 use mathlib.Core.List.{List, [], ◌∷◌, ◌++◌}
-use Prim.Native.Nat.{ℕ, zero, suc, ◌+◌, ◌*◌, ◌-◌, ◌≤◌, ◌<◌}
+use Prim.Native.Nat.{ℕ, zero, suc, ◌+◌, ◌*◌, ◌-◌, ◌≤◌, ◌<◌, ◌^◌}
 use native.Mathlib.Omega.{arith}
-use lib.ListN.{length, drop, get_or, set, length-set, drop_of_length-le}
+use lib.ListN.{length, drop, length-drop, get_or, set, length-set, drop_of_length-le}
 use lib.Dec.{eqb}
+use native.Mathlib.Nat.{pow-suc}
 use lib.Seq.{sets, drop-cons, set_out}
 use borrow.Author.Tests.{eq-eqb}
 use Rattle.slots.specs.declared.Slot.{Slot}
 use Rattle.slots.specs.declared.Table.{Table}
-use Rattle.slots.specs.Slots.{free, bit_of, word_of, table_of}
-use Rattle.slots.proofs.WordLaws.{word_turn, word_byte}
+use Rattle.slots.specs.Slots.{free, is_busy, bit_of, word_of, table_of}
+use Rattle.slots.proofs.WordLaws.{bit_le}
 use Rattle.words.specs.TableWords.{slot_words, slots_words, slot_put, table_words, table_after, slot_in, slots_in, table_held, table_in, change_after}
 use Rattle.words.proofs.TableWords.{put_none}
 use Rattle.words.proofs.TableLaws.{slots_unpacked, slots_long, held_in}
@@ -39,13 +40,27 @@ pub count_none : (words : List ℕ) → 0 ≡ word_of (drop 8 (slots_in words))
 unfolding word_of
 count_none words = sym (ap word_of (drop_of_length-le (slots_in words) {i = 8} (omega (arith, eight_slots words))))
 
-pub count_turn : (words : List ℕ) (w i b : ℕ) → 0 < i → i ≤ 8 → bit_of (not (eqb (get_or words (5 * (i - 1) + 3) 0) 0)) ≡ b → w ≡ word_of (drop i (slots_in words))
-    → w + w + b ≡ word_of (drop (i - 1) (slots_in words))
-count_turn words w i b pos le t e =
-    word_turn (slots_in words) w i b pos (omega (arith, eight_slots words)) (ap (λ (n : ℕ). bit_of (not (eqb n 0))) (next_in words (i - 1) (omega arith)) ∙ t) e
+word_step : (slots : List Slot) (i : ℕ) → i < length slots → word_of (drop i slots) ≡ bit_of (is_busy (get_or slots i free)) + 2 * word_of (drop (i + 1) slots)
+unfolding word_of
+word_step slots i h = let k : i + 1 ≡ suc i = omega arith in rw (k, drop-cons slots i free h)
+
+-- one turn of the loop that makes the word, highest slot first
+pub count_turn : (words : List ℕ) (i w : ℕ) → i < 8 → w ≡ word_of (drop (i + 1) (slots_in words))
+    → 2 * w + bit_of (not (eqb (get_or words (5 * i + 3) 0) 0)) ≡ word_of (drop i (slots_in words))
+count_turn words i w h e =
+    let s = word_step (slots_in words) i (omega (arith, eight_slots words)) in
+    let n : bit_of (is_busy (get_or (slots_in words) i free)) ≡ bit_of (not (eqb (get_or words (5 * i + 3) 0) 0)) = ap (λ (n : ℕ). bit_of (not (eqb n 0))) (next_in words i h) in
+    omega (arith, s, n, e)
+
+word_lt : (slots : List Slot) (n : ℕ) → length slots ≤ n → word_of slots < 2 ^ n
+unfolding word_of
+word_lt [] zero h = omega arith
+word_lt [] (suc n) h = omega (arith, word_lt [] n (omega arith), pow-suc 2 n)
+word_lt (slot ∷ slots) zero h = absurd (omega arith)
+word_lt (slot ∷ slots) (suc n) h = omega (arith, word_lt slots n (omega arith), bit_le (is_busy slot), pow-suc 2 n)
 
 pub count_byte : (words : List ℕ) (i : ℕ) → word_of (drop i (slots_in words)) < 256
-count_byte words i = word_byte (slots_in words) i (eight_slots words)
+count_byte words i = word_lt (drop i (slots_in words)) 8 (omega (arith, length-drop i (slots_in words), eight_slots words))
 
 -- ---- 41 words are the busy word and the words of their slots
 

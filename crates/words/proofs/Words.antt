@@ -1,5 +1,8 @@
 -- Laws of words. Assumes nothing.
-use mathlib.Core.Path.{◌≡◌, ap, sym, ◌∙◌}
+use mathlib.Core.Path.{◌≡◌, refl, ap, sym, ◌∙◌}
+use Rattle.std.proofs.Common.{Result, Ok, Err}
+use Rattle.core.specs.Result.{OkIff, result_unwrap_or}
+use Rattle.std.proofs.lemmas.Result.{OkIff-at_ok, OkIff-at_err}
 use mathlib.Core.Bool.{false}
 use mathlib.Core.List.{List}
 use Prim.Native.Nat.{ℕ, ◌≤◌, ◌<◌, ◌-◌, ◌^◌}
@@ -27,3 +30,8 @@ pub word_inside : (words : List ℕ) (at : ℕ) → 0 < get_or words at 0 → at
 word_inside words at h =
     by_cases (ltb at (length words)) (λ t. ltb-true at (length words) t)
     (λ t. absurd (omega (arith, get_or-eq_default words 0 (ltb-false at (length words) t))))
+
+-- a number that is converted where it fits, and otherwise is the largest
+pub narrowed : {E : Type 0} (bits x : ℕ) (r : Result ℕ E) → OkIff r (x < 2 ^ bits) x → result_unwrap_or r (2 ^ bits - 1) ≡ narrow_to bits x
+narrowed bits x (Ok y) h = let k = OkIff-at_ok (Ok y) (x < 2 ^ bits) x y h refl in k.1 ∙ narrow_small bits x k.0
+narrowed bits x (Err e) h = let n : x < 2 ^ bits → ⊥ = OkIff-at_err (Err e) (x < 2 ^ bits) x e h refl in narrow_large bits x (omega (arith, n))

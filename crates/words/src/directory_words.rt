@@ -71,11 +71,12 @@ pub fn put_part(row: Row, part: &mut [u32])
     ensures answer { part.new ≡ with_part row part.old }
     ensures part { PartPut }
 {
-    if let Some(part) = part.get_mut(..PART_WORDS) {
-        part.copy_from_slice(&[
-            u32::from(row.writable),
-            narrow_word(row.start as u64),
-            narrow_word(row.length as u64),
-        ]);
+    if part.len() < PART_WORDS {
+        return;
     }
+    part[..PART_WORDS].copy_from_slice(&[
+        u32::from(row.writable),
+        narrow_word(row.start as u64),
+        narrow_word(row.length as u64),
+    ]);
 }

@@ -13,8 +13,9 @@ pub(crate) fn word(words: &[u32], i: usize) -> u32
 pub(crate) fn put(words: &mut [u32], i: usize, x: u32)
     ensures { words.new ≡ set words.old i x }
 {
-    if let Some(word) = words.get_mut(i) {
-        *word = x;
+    // Through `get_mut` the proof has no name for the words afterwards.
+    if i < words.len() {
+        words[i] = x;
     }
 }
 

@@ -1,0 +1,6 @@
+use Rattle.std.proofs.Common.{◌∙◌}
+use Rattle.words.proofs.Words.{narrowed}
+use Rattle.words.proofs.word.narrow_word.Goals as goal
+
+pub returns : goal.returns
+returns c = c.unwrap_or.ensures ∙ narrowed 32 c.args.x c.try_from.result c.try_from.ensures
