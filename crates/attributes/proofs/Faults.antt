@@ -11,13 +11,17 @@ use lib.ListN.{length, get_or, take, drop}
 use lib.Seq.{drop-cons, drop-length, get_or-take, length-take-le}
 use borrow.Author.Tests.{eq-eqb, ne_eqb, not-true, not-false}
 use Rattle.refusals.specs.Check.{Check, check, first_of}
-use Rattle.refusals.proofs.Tests.{by_cases}
+use Rattle.refusals.proofs.Tests.{by_cases, by_test}
 use Rattle.bits.specs.Bits.{field}
 use Rattle.apdu.specs.Values.{empty_row}
 use Rattle.directory.specs.declared.Row.{Row}
-use Rattle.directory.specs.declared.Found.{Found}
-use Rattle.directory.specs.Directory.{known_in, row_of, finding}
-use Rattle.directory.proofs.Looking.{few_finding}
+use Rattle.std.proofs.Common.{Option, Some, None, MatchOption}
+use Rattle.std.specs.Option.{unwrap_or}
+use Rattle.directory.specs.Directory.{no_row, known_in, row_of, first_row, finding}
+use Rattle.directory.proofs.Looking.{few_finding, first_of_id}
+use Rattle.attributes.specs.declared.status.Status.{Status}
+use Rattle.attributes.specs.declared.status.Status.TheVariants as status
+use Rattle.attributes.specs.Inside.{number_of}
 use Rattle.attributes.specs.Serving.{Attribute, denied, get_fault, get_faults, set_fault, set_faults, ids_from, set_row, set_rows}
 
 -- ---- checks in a row
@@ -37,100 +41,21 @@ two_pass a b false false ys h = refl
 
 -- ---- a row that was looked up
 
-module _ (rows : List Row) (few : length rows ≤ 32) (id : ℕ) {found : Found} (is : found ≡ finding rows id) where
-  known_is : found.known ≡ known_in id rows
-  known_is = ap (λ (f : Found). f.known) (is ∙ few_finding rows few id)
+module _ (rows : List Row) (few : length rows ≤ 32) (id : ℕ) where
+  pub looked_up : MatchOption (finding rows id) (known_in id rows ≡ false) (λ row. (known_in id rows ≡ true) × (row ≡ row_of id rows))
+  unfolding first_row
+  looked_up =
+      rw (few_finding rows few id)
+      (by_test (λ (o : Option Row). MatchOption o (known_in id rows ≡ false) (λ row. (known_in id rows ≡ true) × (row ≡ row_of id rows))) (known_in id rows) (λ k. (k, refl)) (λ k. k))
 
-  pub row_is : found.row ≡ row_of id rows
-  row_is = ap (λ (f : Found). f.row) (is ∙ few_finding rows few id)
+  pub row_is : unwrap_or (finding rows id) no_row ≡ row_of id rows
+  row_is = rw (few_finding rows few id) (first_of_id rows id)
 
-  module _ (exact : Bool) where
-    pub id_unknown : not found.known ≡ true → 2 ≡ first_of (get_fault rows exact id)
-    unfolding get_fault first_of
-    id_unknown h = let k : known_in id rows ≡ false = sym known_is ∙ not-true found.known h in rw k
-
-    module _ (h : not found.known ≡ false) where
-      here : known_in id rows ≡ true
-      here = sym known_is ∙ not-false found.known h
-
-      pub id_free : not found.row.protected ≡ true → 0 ≡ first_of (get_fault rows exact id)
-      unfolding get_fault denied first_of
-      id_free p = let e : (row_of id rows).protected ≡ false = ap (λ (r : Row). r.protected) (sym row_is) ∙ not-true found.row.protected p in rw (here, e)
-
-      module _ (p : not found.row.protected ≡ false) where
-        guarded : (row_of id rows).protected ≡ true
-        guarded = ap (λ (r : Row). r.protected) (sym row_is) ∙ not-false found.row.protected p
-
-        pub id_exact : exact ≡ true → 0 ≡ first_of (get_fault rows exact id)
-        unfolding get_fault denied first_of
-        id_exact e = rw (here, guarded, e)
-
-        pub id_denied : exact ≡ false → 1 ≡ first_of (get_fault rows exact id)
-        unfolding get_fault denied first_of
-        id_denied e = rw (here, guarded, e)
-
-module _ (rows : List Row) (few : length rows ≤ 32) (exact : Bool) (a : Attribute) {found : Found} (is : found ≡ finding rows a.id) where
-  abbrev row : Row
-  row = row_of a.id rows
-
-  same : found.row ≡ row
-  same = row_is rows few a.id is
-
-  pub set_unknown : not found.known ≡ true → 2 ≡ first_of (set_fault rows exact a)
-  unfolding set_fault first_of
-  set_unknown h = let k : known_in a.id rows ≡ false = sym (known_is rows few a.id is) ∙ not-true found.known h in rw k
-
-  module _ (h : not found.known ≡ false) where
-    there : known_in a.id rows ≡ true
-    there = sym (known_is rows few a.id is) ∙ not-false found.known h
-
-    pub set_kind : (a.kind ≡ 2 → ⊥) → 2 ≡ first_of (set_fault rows exact a)
-    unfolding set_fault first_of
-    set_kind k = rw (there, ne_eqb a.kind 2 k)
-
-    module _ (k : a.kind ≡ 2) where
-      pub set_length : (a.n ≡ found.row.length → ⊥) → 2 ≡ first_of (set_fault rows exact a)
-      unfolding set_fault first_of
-      set_length n =
-          let e : eqb a.n row.length ≡ false = ne_eqb a.n row.length (λ z. n (z ∙ ap (λ (r : Row). r.length) (sym same))) in
-          rw (there, eq-eqb a.kind 2 k, e)
-
-      module _ (n : a.n ≡ found.row.length) where
-        fine : eqb a.n row.length ≡ true
-        fine = eq-eqb a.n row.length (n ∙ ap (λ (r : Row). r.length) same)
-
-        pub set_factory : not found.row.writable ≡ true → 1 ≡ first_of (set_fault rows exact a)
-        unfolding set_fault first_of
-        set_factory w =
-            let e : not row.writable ≡ true = ap (λ (r : Row). not r.writable) (sym same) ∙ w in
-            let f : (denied exact row || not row.writable) ≡ true = ap (λ (b : Bool). denied exact row || b) e ∙ either (denied exact row) in
-            rw (there, eq-eqb a.kind 2 k, fine, f)
-          where
-            either : (b : Bool) → (b || true) ≡ true
-            either true = refl
-            either false = refl
-
-        module _ (w : not found.row.writable ≡ false) where
-          ours : row.writable ≡ true
-          ours = ap (λ (r : Row). r.writable) (sym same) ∙ not-false found.row.writable w
-
-          pub set_free : not found.row.protected ≡ true → 0 ≡ first_of (set_fault rows exact a)
-          unfolding set_fault denied first_of
-          set_free p =
-              let e : row.protected ≡ false = ap (λ (r : Row). r.protected) (sym same) ∙ not-true found.row.protected p in
-              rw (there, eq-eqb a.kind 2 k, fine, ours, e)
-
-          module _ (p : not found.row.protected ≡ false) where
-            shut : row.protected ≡ true
-            shut = ap (λ (r : Row). r.protected) (sym same) ∙ not-false found.row.protected p
-
-            pub set_exact : exact ≡ true → 0 ≡ first_of (set_fault rows exact a)
-            unfolding set_fault denied first_of
-            set_exact e = rw (there, eq-eqb a.kind 2 k, fine, ours, shut, e)
-
-            pub set_denied : exact ≡ false → 1 ≡ first_of (set_fault rows exact a)
-            unfolding set_fault denied first_of
-            set_denied e = rw (there, eq-eqb a.kind 2 k, fine, ours, shut, e)
+-- a status is not 0
+pub status_nonzero : (status : Status) → number_of status ≡ 0 → ⊥
+status_nonzero status.AccessDenied e = absurd (omega arith)
+status_nonzero status.ArgumentError e = absurd (omega arith)
+status_nonzero status.ComplexityLimitation e = absurd (omega arith)
 
 -- ---- the rows in turn
 

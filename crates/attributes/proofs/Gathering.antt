@@ -8,18 +8,16 @@ use native.Mathlib.Omega.{arith}
 use native.Mathlib.Numerals.{add-one}
 use lib.ListN.{length, get_or, take, drop, set, length-set, length-append, length-drop}
 use lib.Seq.{drop-cons, length-take-le, take-suc-set, take_at, take_all}
-use borrow.Author.Tests.{le-leb}
+use borrow.Rule.Slice.PartMut.{post_of, put_mid, Post-is}
 use Rattle.refusals.specs.Check.{pick}
-use Rattle.bits.specs.Bits.{Octets, field, read_field}
-use Rattle.bits.specs.Strings.{is_inside, string_at, copy_fits, copy_string}
-use Rattle.bits.proofs.Laws.{field_octet, field_lt, below_drop, below_take}
+use Rattle.bits.specs.Bits.{field, read_field}
+use Rattle.bits.proofs.Laws.{field_lt}
 use Rattle.directory.specs.declared.Row.{Row}
-use Rattle.directory.specs.declared.Found.{Found}
-use Rattle.directory.specs.Directory.{area_octets, row_sound, sound_directory, row_of, finding}
+use Rattle.directory.specs.Directory.{area_octets, row_sound, sound_directory, row_of}
 use Rattle.directory.proofs.Looking.{sound_short, sound_row, inside_area, row_short}
 use Rattle.attributes.specs.Serving.{Attribute, ids_from, rows_of, value_of, values_in, attributes_at}
 use Rattle.attributes.specs.Inside.{Gathers}
-use Rattle.attributes.proofs.Faults.{row_is, ids_more, ids_none, ids_all}
+use Rattle.attributes.proofs.Faults.{ids_more, ids_none, ids_all}
 
 -- ---- an id
 
@@ -27,42 +25,9 @@ pub seven_is : (s : List ℕ) (at : ℕ) {v : ℕ} → v ≡ read_field s at 7 �
 unfolding read_field
 seven_is s at e = (e, rw e (field_lt s at 7))
 
--- ---- a part of an area
-
-string_octets_law : (s : List ℕ) (i n : ℕ) → Octets s → i + n ≤ length s → string_at s (8 * i) n ≡ take n (drop i s)
-unfolding string_at
-string_octets_law s i zero o h = refl
-string_octets_law s i (suc n) o h =
-    let e : 8 * i + 8 ≡ 8 * suc i = omega arith in
-    ap (λ (x : ℕ). x ∷ string_at s (8 * i + 8) n) (field_octet s i (o.each i))
-    ∙ ap (λ (k : ℕ). get_or s i 0 ∷ string_at s k n) e
-    ∙ ap (λ (l : List ℕ). get_or s i 0 ∷ l) (string_octets_law s (suc i) n o (omega arith))
-    ∙ ap (take (suc n)) (sym (drop-cons s i 0 (omega arith)))
-
-module _ (area out : List ℕ) (start n at : ℕ) (o : Octets area) (inside : start + n ≤ length area) (room : at + n ≤ length out) where
-  pub part_copied : copy_string (take (start + n - start) (drop start area)) 0 n out at ≡ take at out ++ (take n (drop start area) ++ drop (at + n) out)
-  unfolding copy_string copy_fits is_inside
-  part_copied =
-      let k : start + n - start ≡ n = omega arith in
-      let l = take n (drop start area) in
-      let m : length l ≡ n = length-take-le n (drop start area) (omega (arith, length-drop start area)) in
-      let a : n ≤ length l = omega arith in
-      let e : string_at l 0 n ≡ l = string_octets_law l 0 n (below_take n (below_drop start o)) (omega arith) ∙ take_all n l (omega arith) in
-      let f : 0 + 8 * n ≤ 8 * length l = omega arith in
-      rw (k, le-leb (0 + 8 * n) (8 * length l) f, le-leb (at + n) (length out) room, e)
-
 -- ---- the value of a row
 
 module _ (f w : List ℕ) (row : Row) where
-  module _ (out : List ℕ) (at : ℕ) {r : List ℕ} where
-    pub put_ours : r ≡ take at out ++ (take row.length (drop row.start w) ++ drop (at + row.length) out) → row.writable ≡ true → r ≡ take at out ++ (value_of f w row ++ drop (at + row.length) out)
-    unfolding value_of
-    put_ours h e = rw e h
-
-    pub put_factory : r ≡ take at out ++ (take row.length (drop row.start f) ++ drop (at + row.length) out) → row.writable ≡ false → r ≡ take at out ++ (value_of f w row ++ drop (at + row.length) out)
-    unfolding value_of
-    put_factory h e = rw e h
-
   pub length_value : row.start + row.length ≤ area_octets (length f) (length w) row → length (value_of f w row) ≡ row.length
   unfolding value_of
   length_value h = by row.writable h
@@ -70,6 +35,16 @@ module _ (f w : List ℕ) (row : Row) where
       by : (b : Bool) → row.start + row.length ≤ pick b (length w) (length f) → length (take row.length (drop row.start (pick b w f))) ≡ row.length
       by true h = length-take-le row.length (drop row.start w) (omega (arith, length-drop row.start w))
       by false h = length-take-le row.length (drop row.start f) (omega (arith, length-drop row.start f))
+
+-- a value that is copied to its place
+pub value_put : (f w : List ℕ) (row : Row) (out : List ℕ) (at : ℕ) {area part r : List ℕ} → area ≡ pick row.writable w f
+    → part ≡ take (row.start + row.length - row.start) (drop row.start area) → r ≡ put_mid at (at + row.length - at) out part
+    → r ≡ take at out ++ (value_of f w row ++ drop (at + row.length) out)
+unfolding value_of
+value_put f w row out at {area} {part} {r} a p e =
+    let n : row.start + row.length - row.start ≡ row.length = omega arith in
+    let q : post_of at (at + row.length - at) out ≡ drop (at + row.length) out = Post-is at (at + row.length) out (omega arith) in
+    e ∙ ap (λ (l : List ℕ). take at out ++ (part ++ l)) q ∙ ap (λ (l : List ℕ). take at out ++ (l ++ drop (at + row.length) out)) (p ∙ rw (n, a))
 
 -- ---- one row more
 
@@ -90,13 +65,7 @@ module _ (s : List ℕ) (ids count : ℕ) (rows : List Row) (f w : List ℕ) whe
   gathered_none octets attributes a b = record { near = omega arith; long = a; wide = b; values = refl; places = refl }
 
   module _ (sound : sound_directory (length f) (length w) rows ≡ true) (few : count ≤ 16) {octets : List ℕ} {attributes : List Attribute} {at : ℕ} (i : ℕ) (more : i < count)
-      (g : Gathered s ids count rows f w octets attributes at i) {found : Found} (is : found ≡ finding rows (field s (ids + 8 * i + 1) 7)) where
-    abbrev this : Row
-    this = found.row
-
-    this_is : this ≡ row_of (field s (ids + 8 * i + 1) 7) rows
-    this_is = row_is rows (sound_short (length f) (length w) rows sound) (field s (ids + 8 * i + 1) 7) is
-
+      (g : Gathered s ids count rows f w octets attributes at i) {this : Row} (this_is : this ≡ row_of (field s (ids + 8 * i + 1) 7) rows) where
     this_sound : row_sound (length f) (length w) this ≡ true
     this_sound = ap (row_sound (length f) (length w)) this_is ∙ sound_row (length f) (length w) rows sound (field s (ids + 8 * i + 1) 7)
 

@@ -24,7 +24,11 @@ use Rattle.directory.proofs.Looking.{gathered_few, gathered_many, unsound}
 use Rattle.attributes.specs.declared.answers.RequestOutcome.TheVariants as told
 use Rattle.attributes.specs.declared.answers.RequestAnswer.{RequestAnswer}
 use Rattle.attributes.specs.Serving.{Attribute, Tag, exact, ids_from, get_faults, get_status, set_faults, set_status, set_rows, get_reply, get_refusal, set_reply, echo_reply, effect, Effect, sent, too_long, told_of, getting, setting, carried, served, by_reading, requested, Answered}
-use Rattle.attributes.specs.Inside.{tag_of, Sends, unserved}
+use Rattle.std.proofs.Common.{Result, Ok, Err}
+use Rattle.core.specs.Result.{is_ok}
+use Rattle.attributes.specs.declared.status.Status.{Status}
+use Rattle.attributes.specs.Inside.{tag_of, Sends, unserved, number_of, status_of}
+use Rattle.attributes.proofs.Faults.{status_nonzero}
 use Rattle.attributes.proofs.Sending.{long_kept}
 
 -- ---- the status of a GET
@@ -100,6 +104,9 @@ module _ (eid : ℕ) (credentials : List ℕ) (rows : List Row) (f w : List ℕ)
 
 -- ---- SET
 
+false_true : false ≡ true → ⊥
+false_true e = cc
+
 module _ (eid : ℕ) (credentials : List ℕ) (rows : List Row) (w : List ℕ) (s : List ℕ) (m : SetRequest) (attributes : List Attribute) (out : List ℕ) {status : ℕ}
     (is : status ≡ set_status (tag_of eid credentials rows [] []) s m attributes) {w' : List ℕ}
     (written : w' ≡ pick (eqb status 0) (set_rows s rows (take m.count attributes) w) w) where
@@ -119,6 +126,22 @@ module _ (eid : ℕ) (credentials : List ℕ) (rows : List Row) (w : List ℕ) (
   pub set_replied : not m.mode ≡ false → {r : RequestAnswer} {out' : List ℕ} → Sends (set_reply s m status) out r out' → effect (told_of r.outcome) w' out' ≡ setting own s m attributes out
   unfolding setting
   set_replied h {r} {out'} g = g.so w' ∙ rw (set_status_is, not-false m.mode h, written)
+
+-- what is written where the check was passed, and where it was not
+module _ {A : Type 0} (r : Result A Status) {b : Bool} (is : b ≡ is_ok r) where
+  pub all_written : b ≡ true → (x y : List ℕ) → x ≡ pick (eqb (status_of r) 0) x y
+  all_written t x y = by_result r (sym is ∙ t)
+    where
+      by_result : (q : Result A Status) → is_ok q ≡ true → x ≡ pick (eqb (status_of q) 0) x y
+      by_result (Ok a) e = refl
+      by_result (Err status) e = absurd (false_true e)
+
+  pub none_written : b ≡ false → (x y : List ℕ) → y ≡ pick (eqb (status_of r) 0) x y
+  none_written t x y = by_result r (sym is ∙ t)
+    where
+      by_result : (q : Result A Status) → is_ok q ≡ false → y ≡ pick (eqb (status_of q) 0) x y
+      by_result (Ok a) e = absurd (false_true (sym e))
+      by_result (Err status) e = rw (ne_eqb (number_of status) 0 (status_nonzero status))
 
 -- ---- a request that is served
 
@@ -161,9 +184,9 @@ module _ (tag : Tag) (s out : List ℕ) (r : Reading) (h : Reads s r) where
       answered_read e = answered _ (rw (passed, e))
 
       module _ {m : Message} (e : r.answer ≡ answer.Message m) {v : Bool} (k : v ≡ served m) where
-        pub answered_24 : not v ≡ true → {a : RequestAnswer} → a ≡ unserved → Answered tag s out a tag.writable out
+        pub answered_24 : not v ≡ true → Answered tag s out unserved tag.writable out
         unfolding by_reading told_of
-        answered_24 n u = answered _ (rw (passed, e, ← k, not-true v n, u))
+        answered_24 n = answered _ (rw (passed, e, ← k, not-true v n))
 
         pub answered_served : not v ≡ false → (a : RequestAnswer) {w out' : List ℕ} → effect (told_of a.outcome) w out' ≡ carried tag s m r.lists.rows out → Answered tag s out a w out'
         unfolding by_reading
@@ -182,7 +205,7 @@ module _ (eid : ℕ) (credentials : List ℕ) (rows : List Row) (f w s out : Lis
       (λ t. ap (λ (l : List Row). requested (lent l) s r out) (gathered_few rows (leb-true (length rows) 32 t)))
       (λ t.
       let h = leb-false (length rows) 32 t in
-      let u : sound_directory (length f) (length w) rows ≡ false = unsound (length f) (length w) rows 0 h in
+      let u : sound_directory (length f) (length w) rows ≡ false = unsound (length f) (length w) rows h in
       let v : sound_directory (length f) (length w) (list_of (gathered rows)) ≡ false = gathered_many (length f) (length w) rows h ∙ u in
       by_cases (ltb (length out) 512) (λ k. rw k) (λ k. rw (k, u, v)))
 

@@ -12,15 +12,16 @@ use Rattle.apdu.specs.declared.lists.Entry.{Entry}
 use Rattle.apdu.specs.declared.records.Message.{Message}
 use Rattle.apdu.specs.Values.{values_of}
 use Rattle.apdu.specs.Sound.{well_formed}
-use Rattle.apdu_writing.specs.declared.writing.ApduWritten.{ApduWritten}
-use Rattle.apdu_writing.specs.declared.writing.ApduWritten.TheVariants as written
+use Rattle.std.proofs.Common.{Result, Ok, Err}
+use Rattle.apdu_writing.specs.declared.writing.WriteRefusal.{WriteRefusal}
+use Rattle.apdu_writing.specs.declared.writing.WriteRefusal.TheVariants as refusal
 use Rattle.apdu_writing.specs.Answer.{answer_of, write_refusal, answered, write_answer, write_output}
 use Rattle.attributes.specs.declared.answers.RequestOutcome.TheVariants as told
 use Rattle.attributes.specs.declared.answers.RequestAnswer.{RequestAnswer}
 use Rattle.attributes.specs.Serving.{Attribute, Reply, no_entries, writes, sent, too_long, told_of}
 use Rattle.attributes.specs.Inside.{Sends}
 
-module _ (m : Message) (attributes : List Attribute) (lent out : List ℕ) (es : List Entry) (x : ApduWritten) {out' : List ℕ} (none : es ≡ no_entries)
+module _ (m : Message) (attributes : List Attribute) (lent out : List ℕ) (es : List Entry) (x : Result ℕ WriteRefusal) {out' : List ℕ} (none : es ≡ no_entries)
     (is : (answer_of x ≡ write_answer lent m es attributes (length out)) × (out' ≡ write_output lent m es attributes out)) where
   abbrev reply : Reply
   reply = record { message = m; attributes = attributes; lent = lent }
@@ -28,19 +29,19 @@ module _ (m : Message) (attributes : List Attribute) (lent out : List ℕ) (es :
   sends : {r : RequestAnswer} → writes (answer_of x) ≡ told_of r.outcome → Sends reply out r out'
   sends e = record { so = λ w. unfold sent in rw (← e, is.0, is.1, none) }
 
-  pub sends_23 : x ≡ written.RecordOutOfRange → Sends reply out (record { outcome = told.Refused 23 }) out'
+  pub sends_23 : {k : WriteRefusal} → x ≡ Err k → k ≡ refusal.RecordOutOfRange → Sends reply out (record { outcome = told.Refused 23 }) out'
   unfolding writes answer_of told_of
-  sends_23 e = sends (rw e)
+  sends_23 e f = sends (rw (e, f))
 
-  pub sends_21 : {p : ℕ} → x ≡ written.MessageTooLong p → Sends reply out (record { outcome = told.RefusedAt 21 p }) out'
+  pub sends_21 : {p : ℕ} {k : WriteRefusal} → x ≡ Err k → k ≡ refusal.MessageTooLong p → Sends reply out (record { outcome = told.RefusedAt 21 p }) out'
   unfolding writes answer_of told_of
-  sends_21 e = sends (rw e)
+  sends_21 e f = sends (rw (e, f))
 
-  pub sends_22 : x ≡ written.OutputTooSmall → Sends reply out (record { outcome = told.Refused 22 }) out'
+  pub sends_22 : {k : WriteRefusal} → x ≡ Err k → k ≡ refusal.OutputTooSmall → Sends reply out (record { outcome = told.Refused 22 }) out'
   unfolding writes answer_of told_of
-  sends_22 e = sends (rw e)
+  sends_22 e f = sends (rw (e, f))
 
-  pub sends_octets : {n : ℕ} → x ≡ written.Octets n → Sends reply out (record { outcome = told.Reply n }) out'
+  pub sends_octets : {n : ℕ} → x ≡ Ok n → Sends reply out (record { outcome = told.Reply n }) out'
   unfolding writes answer_of told_of
   sends_octets e = sends (rw e)
 

@@ -15,6 +15,7 @@ use apdu::{GetRequest, GetResponse, Message};
 use directory::Directory;
 
 // The status of the id at a bit place.
+#[tactic(auto, unfolding(refusals::specs::Check::first_of, crate::specs::Serving::get_fault, crate::specs::Serving::denied))]
 fn check_id(s: &[u8], at: usize, d: Directory, exact: bool) -> Result<(), Status>
     requires { (at ≤ 4096) × (length (list_of d) ≤ 32) }
     ensures { status_of result ≡ first_of (get_fault (list_of d) exact (field s.now (at + 1) 7)) }
@@ -43,6 +44,7 @@ fn check_ids(s: &[u8], ids: usize, count: usize, d: Directory, exact: bool) -> R
 }
 
 // The return status.
+#[tactic(auto, unfolding(refusals::specs::Check::first_of, crate::specs::Serving::get_status))]
 fn check_get(
     s: &[u8],
     m: GetRequest,

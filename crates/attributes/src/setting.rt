@@ -8,17 +8,19 @@ ghost use Rattle.attributes.specs.Inside.{tag_of, SetFits, Sends, status_of};
 use crate::answers::{RequestAnswer, RequestOutcome, send};
 use crate::credentials::are_exact;
 use crate::status::Status;
+use crate::values::look_up;
 use apdu::{Message, Response, SetRequest};
-use directory::{Directory, NO_ROW, find};
+use directory::{Directory, NO_ROW};
 
 const OCTET_STRING: u8 = apdu::OCTET_STRING as u8;
 
 // The status of an attribute.
+#[tactic(auto, unfolding(refusals::specs::Check::first_of, crate::specs::Serving::set_fault, crate::specs::Serving::denied))]
 fn check_attribute(a: apdu::Row, d: Directory, exact: bool) -> Result<(), Status>
     requires { length (list_of d) ≤ 32 }
     ensures { status_of result ≡ first_of (set_fault (list_of d) exact a) }
 {
-    match find(d, u16::from(a.id)) {
+    match look_up(d, u16::from(a.id)) {
         None => Err(Status::ArgumentError),
         Some(row) => {
             if a.kind != OCTET_STRING || a.n as usize != row.length {
@@ -78,7 +80,7 @@ fn set_row(s: &[u8], a: apdu::Row, d: Directory, writable: &mut [u8])
     requires { length (list_of d) ≤ 32 }
     ensures { writable.new ≡ set_row s.now (list_of d) a writable.old }
 {
-    let row = find(d, u16::from(a.id)).unwrap_or(NO_ROW);
+    let row = look_up(d, u16::from(a.id)).unwrap_or(NO_ROW);
     let done = bits::copy_string(s, a.start as usize, a.n as usize, writable, row.start);
 }
 

@@ -1,7 +1,8 @@
 // The values of rows, gathered for a reply.
-ghost use Rattle.std.specs.Prelude.{◌≡◌, true, ◌++◌, ◌+◌, ◌*◌, ◌≤◌, length, take, drop};
+ghost use Rattle.std.specs.Prelude.{◌≡◌, true, false, MatchOption, ◌++◌, ◌+◌, ◌*◌, ◌≤◌, length, take, drop};
 ghost use Rattle.bits.specs.Bits.{field};
-ghost use Rattle.directory.specs.Directory.{area_octets, sound_directory, finding};
+ghost use Rattle.directory.specs.Directory.{area_octets, sound_directory, known_in, row_of, no_row};
+ghost use Rattle.std.specs.Option.{unwrap_or};
 ghost use Rattle.directory.specs.Gathered.{list_of};
 ghost use Rattle.attributes.specs.Serving.{value_of};
 ghost use Rattle.attributes.specs.Inside.{Gathers};
@@ -24,12 +25,22 @@ fn put_value(row: Row, factory: &[u8], writable: &[u8], out: &mut [u8], at: usiz
     out[at..at + row.length].copy_from_slice(&area[row.start..row.start + row.length]);
 }
 
+// The row of an id.
+pub(crate) fn look_up(d: Directory, id: u16) -> Option<Row>
+    requires { length (list_of d) ≤ 32 }
+    ensures found { MatchOption result (known_in id (list_of d) ≡ false) (λ row. (known_in id (list_of d) ≡ true) × (row ≡ row_of id (list_of d))) }
+    ensures row { unwrap_or result no_row ≡ row_of id (list_of d) }
+{
+    find(d, id)
+}
+
 // The row of the id at a bit place, behind its extension bit.
 pub(crate) fn row_at(s: &[u8], at: usize, d: Directory) -> Option<Row>
-    requires { at ≤ 4096 }
-    ensures { result ≡ finding (list_of d) (field s.now (at + 1) 7) }
+    requires { (at ≤ 4096) × (length (list_of d) ≤ 32) }
+    ensures found { let id = field s.now (at + 1) 7 in MatchOption result (known_in id (list_of d) ≡ false) (λ row. (known_in id (list_of d) ≡ true) × (row ≡ row_of id (list_of d))) }
+    ensures row { unwrap_or result no_row ≡ row_of (field s.now (at + 1) 7) (list_of d) }
 {
-    find(d, bits::read_field(s, at + 1, 7) as u16)
+    look_up(d, bits::read_field(s, at + 1, 7) as u16)
 }
 
 // The values of the `count` rows whose ids stand from bit place `ids` on.

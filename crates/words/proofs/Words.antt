@@ -33,5 +33,5 @@ word_inside words at h =
 
 -- a number that is converted where it fits, and otherwise is the largest
 pub narrowed : {E : Type 0} (bits x : ℕ) (r : Result ℕ E) → OkIff r (x < 2 ^ bits) x → result_unwrap_or r (2 ^ bits - 1) ≡ narrow_to bits x
-narrowed bits x (Ok y) h = let k = OkIff-at_ok (Ok y) (x < 2 ^ bits) x y h refl in k.1 ∙ narrow_small bits x k.0
-narrowed bits x (Err e) h = let n : x < 2 ^ bits → ⊥ = OkIff-at_err (Err e) (x < 2 ^ bits) x e h refl in narrow_large bits x (omega (arith, n))
+narrowed {E} bits x (Ok y) h = let k : (x < 2 ^ bits) × (y ≡ x) = OkIff-at_ok {T = ℕ} {E = E} (Ok y) (x < 2 ^ bits) x y h refl in k.1 ∙ narrow_small bits x k.0
+narrowed {E} bits x (Err e) h = let n : x < 2 ^ bits → ⊥ = OkIff-at_err {T = ℕ} {E = E} (Err e) (x < 2 ^ bits) x e h refl in narrow_large bits x (omega (arith, n))

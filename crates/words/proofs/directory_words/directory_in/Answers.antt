@@ -1,53 +1,28 @@
-use Rattle.std.proofs.Common.{rules, ◌≡◌, ◌<◌, ◌^◌, replicate, ℕ, ◌+◌, ◌-◌, ◌*◌, ◌≤◌, length, ◌/◌, ◌%◌, Bool, true, false, nat_eq, nat_lt, List, [], ◌∷◌, ◌++◌, slice_index_or, slice_set, bit_and, bit_or, Fits, w8, w32, w64, Bor, MutBor}
-use Rattle.directory.specs.Directory.{no_row}
-use Rattle.directory.specs.Gathered.{list_of}
-use Rattle.words.specs.RowWords.{id_in, row_at, rows_in, with_part, UnpackingRows, OtherRowsLength, LargeId, OtherArea, PartPut}
+use Rattle.std.proofs.Common.{◌∙◌, inl, inr, arith}
+use Rattle.words.proofs.RowLaws.{rows_first, rows_next, rows_all, left_over, too_many, rows_read, unpacking_rows, other_rows_length, large_id, other_area}
 use Rattle.words.proofs.directory_words.directory_in.Goals as goal
 
--- src/directory_words.rt:59:9
-pub returns-then-words-ne0-clause-answer : goal.returns-then-words-ne0-clause-answer
-returns-then-words-ne0-clause-answer c = ?
+pub returns-then-words-ne0 : goal.returns-then-words-ne0
+returns-then-words-ne0 c = record {
+  answer = c.not_sound.ensures ∙ elim c.then-words-ne0.either [ inl h ↦ left_over _ h | inr h ↦ too_many _ h.0 h.1 ];
+  unpacking = unpacking_rows;
+  other_length = other_rows_length;
+  large_id = large_id;
+  other_area = other_area;
+}
 
--- src/directory_words.rt:59:9
-pub returns-then-words-ne0-clause-unpacking : goal.returns-then-words-ne0-clause-unpacking
-returns-then-words-ne0-clause-unpacking c = ?
-
--- src/directory_words.rt:59:9
-pub returns-then-words-ne0-clause-other_length : goal.returns-then-words-ne0-clause-other_length
-returns-then-words-ne0-clause-other_length c = ?
-
--- src/directory_words.rt:59:9
-pub returns-then-words-ne0-clause-large_id : goal.returns-then-words-ne0-clause-large_id
-returns-then-words-ne0-clause-large_id c = ?
-
--- src/directory_words.rt:59:9
-pub returns-then-words-ne0-clause-other_area : goal.returns-then-words-ne0-clause-other_area
-returns-then-words-ne0-clause-other_area c = ?
-
--- src/directory_words.rt:62:5
 pub loop-i-init : goal.loop-i-init
-loop-i-init c = ?
+loop-i-init c = rows_first _ _ c.empty-d.ensures
 
--- src/directory_words.rt:62:5
+pub bounds-d-i : goal.bounds-d-i
+bounds-d-i c = omega (arith, c.loop-i.invariant.long)
+
 pub loop-i-preserved : goal.loop-i-preserved
-loop-i-preserved c = ?
+loop-i-preserved c =
+    let l = c.loop-i in
+    rows_next _ _ l.d.rows l.i c.loop-i-test.true c.if-n-gt-MOST_ROWS.false c.row_in.ensures l.invariant
 
--- src/directory_words.rt:50:1
-pub returns-clause-answer : goal.returns-clause-answer
-returns-clause-answer c = ?
-
--- src/directory_words.rt:50:1
-pub returns-clause-unpacking : goal.returns-clause-unpacking
-returns-clause-unpacking c = ?
-
--- src/directory_words.rt:50:1
-pub returns-clause-other_length : goal.returns-clause-other_length
-returns-clause-other_length c = ?
-
--- src/directory_words.rt:50:1
-pub returns-clause-large_id : goal.returns-clause-large_id
-returns-clause-large_id c = ?
-
--- src/directory_words.rt:50:1
-pub returns-clause-other_area : goal.returns-clause-other_area
-returns-clause-other_area c = ?
+pub returns : goal.returns
+returns c =
+    let all = rows_all _ _ c.loop-i.d.rows c.loop-i.i (omega arith) c.loop-i.invariant in
+    record { answer = rows_read _ c.if-words-ne0.false c.if-n-gt-MOST_ROWS.false all; unpacking = unpacking_rows; other_length = other_rows_length; large_id = large_id; other_area = other_area }
