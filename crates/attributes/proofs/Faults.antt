@@ -2,27 +2,25 @@
 -- Assumes nothing.
 use Prim.Native.Nat.{ℕ, suc, ◌+◌, ◌-◌, ◌*◌, ◌≤◌, ◌<◌}
 use mathlib.Core.Path.{◌≡◌, refl, ap, sym, ◌∙◌}
-use mathlib.Core.Bool.{Bool, true, false, not, ◌||◌}
+use mathlib.Core.Bool.{Bool, true, false}
 use mathlib.Core.List.{List, [], ◌∷◌, ◌++◌}
 use native.Mathlib.Omega.{arith}
 use native.Mathlib.Numerals.{add-one}
-use lib.Dec.{eqb}
 use lib.ListN.{length, get_or, take, drop}
 use lib.Seq.{drop-cons, drop-length, get_or-take, length-take-le}
-use borrow.Author.Tests.{eq-eqb, ne_eqb, not-true, not-false}
 use Rattle.refusals.specs.Check.{Check, check, first_of}
 use Rattle.refusals.proofs.Tests.{by_cases, by_test}
 use Rattle.bits.specs.Bits.{field}
 use Rattle.apdu.specs.Values.{empty_row}
 use Rattle.directory.specs.declared.Row.{Row}
-use Rattle.std.proofs.Common.{Option, Some, None, MatchOption}
+use Rattle.std.proofs.Common.{Option, MatchOption}
 use Rattle.std.specs.Option.{unwrap_or}
 use Rattle.directory.specs.Directory.{no_row, known_in, row_of, first_row, finding}
 use Rattle.directory.proofs.Looking.{few_finding, first_of_id}
 use Rattle.attributes.specs.declared.status.Status.{Status}
 use Rattle.attributes.specs.declared.status.Status.TheVariants as status
 use Rattle.attributes.specs.Inside.{number_of}
-use Rattle.attributes.specs.Serving.{Attribute, denied, get_fault, get_faults, set_fault, set_faults, ids_from, set_row, set_rows}
+use Rattle.attributes.specs.Serving.{Attribute, get_fault, get_faults, set_fault, set_faults, ids_from, set_row, set_rows}
 
 -- ---- checks in a row
 

@@ -1,20 +1,20 @@
 -- Values that are gathered: a part copied, a value, one row more; and a reply does not depend on what stands behind the values.
 -- Assumes nothing.
-use Prim.Native.Nat.{ℕ, zero, suc, ◌+◌, ◌-◌, ◌*◌, ◌≤◌, ◌<◌}
+use Prim.Native.Nat.{ℕ, ◌+◌, ◌-◌, ◌*◌, ◌≤◌, ◌<◌}
 use mathlib.Core.Path.{◌≡◌, refl, ap, sym, ◌∙◌}
 use mathlib.Core.Bool.{Bool, true, false}
 use mathlib.Core.List.{List, [], ◌∷◌, ◌++◌, append_assoc, append-nil}
 use native.Mathlib.Omega.{arith}
 use native.Mathlib.Numerals.{add-one}
-use lib.ListN.{length, get_or, take, drop, set, length-set, length-append, length-drop}
-use lib.Seq.{drop-cons, length-take-le, take-suc-set, take_at, take_all}
+use lib.ListN.{length, take, drop, set, length-set, length-append, length-drop}
+use lib.Seq.{length-take-le, take-suc-set, take_at}
 use borrow.Rule.Slice.PartMut.{post_of, put_mid, Post-is}
 use Rattle.refusals.specs.Check.{pick}
 use Rattle.bits.specs.Bits.{field, read_field}
 use Rattle.bits.proofs.Laws.{field_lt}
 use Rattle.directory.specs.declared.Row.{Row}
 use Rattle.directory.specs.Directory.{area_octets, row_sound, sound_directory, row_of}
-use Rattle.directory.proofs.Looking.{sound_short, sound_row, inside_area, row_short}
+use Rattle.directory.proofs.Looking.{sound_row, inside_area, row_short}
 use Rattle.attributes.specs.Serving.{Attribute, ids_from, rows_of, value_of, values_in, attributes_at}
 use Rattle.attributes.specs.Inside.{Gathers}
 use Rattle.attributes.proofs.Faults.{ids_more, ids_none, ids_all}

@@ -25,7 +25,7 @@ use Rattle.attributes.specs.declared.answers.RequestOutcome.TheVariants as told
 use Rattle.attributes.specs.declared.answers.RequestAnswer.{RequestAnswer}
 use Rattle.attributes.specs.Serving.{Attribute, Tag, exact, ids_from, get_faults, get_status, set_faults, set_status, set_rows, get_reply, get_refusal, set_reply, echo_reply, effect, Effect, sent, too_long, told_of, getting, setting, carried, served, by_reading, requested, Answered}
 use Rattle.std.proofs.Common.{Result, Ok, Err}
-use Rattle.core.specs.Result.{is_ok}
+use Rattle.std.specs.Result.{is_ok}
 use Rattle.attributes.specs.declared.status.Status.{Status}
 use Rattle.attributes.specs.Inside.{tag_of, Sends, unserved, number_of, status_of}
 use Rattle.attributes.proofs.Faults.{status_nonzero}
@@ -158,6 +158,22 @@ module _ (eid : ℕ) (credentials : List ℕ) (rows : List Row) (f w s : List �
   pub carried_get : {x : GetRequest} → m ≡ kind.GetRequest x → effect (told_of r.outcome) w out' ≡ getting (tag_of eid credentials rows f w) s x out → effect (told_of r.outcome) w out' ≡ carried (tag_of eid credentials rows f w) s m attributes out
   unfolding carried
   carried_get e h = rw e h
+
+-- any other message
+pub carried_none : (tag : Tag) (s : List ℕ) (m : Message) (attributes : List Attribute) (out : List ℕ)
+    → ((x : Request) → m ≡ kind.ActionRequest x → ⊥) → ((x : SetRequest) → m ≡ kind.SetRequest x → ⊥) → ((x : GetRequest) → m ≡ kind.GetRequest x → ⊥)
+    → effect (told_of (told.Refused 24)) tag.writable out ≡ carried tag s m attributes out
+unfolding carried told_of
+carried_none _ s (kind.ActionRequest x) attributes out a b c = absurd (a x refl)
+carried_none _ s (kind.ActionResponse x) attributes out a b c = refl
+carried_none _ s (kind.EventRequest x) attributes out a b c = refl
+carried_none _ s (kind.EventResponse x) attributes out a b c = refl
+carried_none _ s (kind.SetRequest x) attributes out a b c = absurd (b x refl)
+carried_none _ s (kind.SetResponse x) attributes out a b c = refl
+carried_none _ s (kind.GetRequest x) attributes out a b c = absurd (c x refl)
+carried_none _ s (kind.GetResponse x) attributes out a b c = refl
+carried_none _ s (kind.Bst x) attributes out a b c = refl
+carried_none _ s (kind.Vst x) attributes out a b c = refl
 
 -- ---- the call
 

@@ -69,5 +69,8 @@ pub(crate) fn send(
 pub(crate) fn too_long(a: RequestAnswer) -> bool
     ensures { result ≡ too_long (told_of a.outcome) }
 {
-    matches!(a.outcome, RequestOutcome::RefusedAt(refusals::APDU_TOO_LONG, _))
+    matches!(
+        a.outcome,
+        RequestOutcome::RefusedAt(refusals::APDU_TOO_LONG, _)
+    )
 }

@@ -110,7 +110,12 @@ fn send_values(
         has_ret: false,
         ret: 0,
     };
-    send(Message::GetResponse(reply), values.attributes, &values.octets, out)
+    send(
+        Message::GetResponse(reply),
+        values.attributes,
+        &values.octets,
+        out,
+    )
 }
 
 // A GET that is served.

@@ -95,7 +95,12 @@ fn set_rows(s: &[u8], attributes: [apdu::Row; 32], count: usize, d: Directory, w
 }
 
 // A reply with a status, which is 0 where no fault was found.
-fn send_status(s: &[u8], m: SetRequest, checked: Result<(), Status>, out: &mut [u8]) -> RequestAnswer
+fn send_status(
+    s: &[u8],
+    m: SetRequest,
+    checked: Result<(), Status>,
+    out: &mut [u8],
+) -> RequestAnswer
     ensures { Sends (set_reply s.now m (status_of checked)) out.old result out.new }
 {
     let reply = Response {

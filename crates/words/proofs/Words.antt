@@ -1,7 +1,7 @@
 -- Laws of words. Assumes nothing.
 use mathlib.Core.Path.{◌≡◌, refl, ap, sym, ◌∙◌}
 use Rattle.std.proofs.Common.{Result, Ok, Err}
-use Rattle.core.specs.Result.{OkIff, result_unwrap_or}
+use Rattle.std.specs.Result.{OkIff, result_unwrap_or}
 use Rattle.std.proofs.lemmas.Result.{OkIff-at_ok, OkIff-at_err}
 use mathlib.Core.Bool.{false}
 use mathlib.Core.List.{List}

@@ -1,8 +1,7 @@
 -- `attributes::calls::carry_out` meets its contract, kind by kind. Assumes nothing.
 use Rattle.directory.proofs.Looking.{sound_short}
-use Rattle.attributes.specs.Serving.{carried, told_of}
 use Rattle.attributes.proofs.Ranges.{fits_set, fits_get}
-use Rattle.attributes.proofs.Outcomes.{carried_echo, carried_set, carried_get}
+use Rattle.attributes.proofs.Outcomes.{carried_echo, carried_set, carried_get, carried_none}
 use Rattle.attributes.proofs.calls.carry_out.Goals as goal
 
 pub set-requires : goal.set-requires
@@ -20,3 +19,5 @@ returns-in-SetRequest c = carried_set _ _ _ _ _ _ _ _ _ c.in-SetRequest.is c.set
 pub returns-in-GetRequest : goal.returns-in-GetRequest
 returns-in-GetRequest c = carried_get _ _ _ _ _ _ _ _ _ c.in-GetRequest.is c.get.ensures
 
+pub returns-in_default : goal.returns-in_default
+returns-in_default c = carried_none _ _ c.args.m _ _ c.in_default.not-ActionRequest c.in_default.not-SetRequest c.in_default.not-GetRequest

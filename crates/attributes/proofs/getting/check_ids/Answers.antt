@@ -1,4 +1,4 @@
-use Rattle.std.proofs.Common.{◌≡◌, ℕ, List, arith, ap, refl, sym, ◌∙◌}
+use Rattle.std.proofs.Common.{ℕ, List, arith, ap, refl, sym, ◌∙◌}
 use Rattle.std.proofs.lemmas.Result.{err_from_is_err_and}
 use Rattle.refusals.specs.Check.{first_of}
 use Rattle.directory.specs.Gathered.{list_of}

@@ -1,5 +1,4 @@
 -- `attributes::getting::send_values` meets its contract: what stands behind the values plays no part. Assumes nothing.
-use mathlib.Core.Path.{sym}
 use Rattle.attributes.proofs.Sending.{sends_same}
 use Rattle.attributes.proofs.ValueReply.{values_same}
 use Rattle.attributes.proofs.getting.send_values.Goals as goal

@@ -16,7 +16,7 @@ returns-then-not-m c =
     let ok = c.is_ok.ensures.value in
     let written : c.if-is_ok.writable ≡ pick (eqb (status_of r) 0) (set_rows a.s.now (list_of a.d) (take a.m.count a.attributes) a.writable.now) a.writable.now =
     elim c.if-is_ok.branch [
-      then-is_ok v ↦ v.writable-is ∙ v.set_rows.ensures ∙ all_written r ok v.if-is_ok.true _ _
+      | then-is_ok v ↦ v.writable-is ∙ v.set_rows.ensures ∙ all_written r ok v.if-is_ok.true _ _
       | else-is_ok v ↦ v.writable-is ∙ none_written r ok v.if-is_ok.false _ _
     ] in
     set_silent _ _ _ _ _ _ _ _ c.check_set-checked.ensures written c.if-not-m.true
@@ -28,7 +28,7 @@ returns c =
     let ok = c.is_ok.ensures.value in
     let written : c.if-is_ok.writable ≡ pick (eqb (status_of r) 0) (set_rows a.s.now (list_of a.d) (take a.m.count a.attributes) a.writable.now) a.writable.now =
     elim c.if-is_ok.branch [
-      then-is_ok v ↦ v.writable-is ∙ v.set_rows.ensures ∙ all_written r ok v.if-is_ok.true _ _
+      | then-is_ok v ↦ v.writable-is ∙ v.set_rows.ensures ∙ all_written r ok v.if-is_ok.true _ _
       | else-is_ok v ↦ v.writable-is ∙ none_written r ok v.if-is_ok.false _ _
     ] in
     set_replied _ _ _ _ _ _ _ _ c.check_set-checked.ensures written c.if-not-m.false c.send_status.ensures

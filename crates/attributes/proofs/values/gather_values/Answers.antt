@@ -1,9 +1,6 @@
-use Rattle.std.proofs.Common.{◌≡◌, ◌+◌, ◌*◌, ℕ, length, arith, ap, sym, ◌∙◌}
+use Rattle.std.proofs.Common.{ℕ, length, arith, ap, sym, ◌∙◌}
 use lib.ListN.{length-replicate}
-use Rattle.bits.specs.Bits.{field}
 use Rattle.apdu.specs.Values.{empty_row}
-use Rattle.directory.specs.Directory.{row_of}
-use Rattle.directory.specs.Gathered.{list_of}
 use Rattle.directory.proofs.Looking.{sound_short}
 use Rattle.attributes.proofs.Gathering.{gathered_none, gathered_more, gathered_all, this_inside, this_short, this_room}
 use Rattle.attributes.proofs.values.gather_values.Goals as goal

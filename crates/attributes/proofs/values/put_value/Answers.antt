@@ -10,7 +10,7 @@ returns c =
     let a = c.args in
     let area : c.if-row.area.now ≡ pick a.row.writable a.writable.now a.factory.now =
     elim c.if-row.branch [
-      then-row v ↦ rw v.if-row.true (ap (λ (l : Bor (List ℕ)). l.now) v.area-is)
+      | then-row v ↦ rw v.if-row.true (ap (λ (l : Bor (List ℕ)). l.now) v.area-is)
       | else-row v ↦ rw v.if-row.false (ap (λ (l : Bor (List ℕ)). l.now) v.area-is)
     ] in
     value_put a.factory.now a.writable.now a.row a.out.now a.at area c.copy_from_slice.ensures.after refl
