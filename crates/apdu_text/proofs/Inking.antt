@@ -1,6 +1,6 @@
 -- Laws of the pen: texts one behind the other, and when a measured text has room.
 -- Assumes nothing.
-use Prim.Native.Nat.{ℕ, suc, ◌+◌, ◌≤◌, ◌<◌}
+use Prim.Native.Nat.{ℕ, suc, ◌+◌, ◌≤◌, ◌<◌, min}
 use mathlib.Core.Path.{◌≡◌, refl, ap, sym, ◌∙◌}
 use mathlib.Core.Bool.{Bool, true, false}
 use mathlib.Core.List.{List, [], ◌∷◌, ◌++◌, append_assoc}
@@ -10,36 +10,41 @@ use lib.Dec.{ltb}
 use lib.ListN.{length, take, drop, set}
 use lib.Seq.{sets, set_out, sets-eq}
 use borrow.Author.Tests.{lt-ltb, le-ltb, lt-leb, le-leb}
-use Rattle.refusals.specs.Check.{accepted}
-use Rattle.refusals.proofs.Tests.{by_test}
-use Rattle.bench_lines.specs.Text.{written, has_room, append_text, appended_answer, output_after}
-use Rattle.bench_lines.specs.declared.Appended.TheVariants as appended
+use Rattle.refusals.specs.Check.{accepted, refused}
+use Rattle.refusals.proofs.Tests.{by_test, by_cases}
+use Rattle.bench_lines.specs.Text.{written, has_room, append_text, output_after}
 use Rattle.apdu_text.specs.Parts.{when}
-use Rattle.apdu_text.specs.Ink.{farthest, next, place_after, inked, Inks}
+use Rattle.apdu_text.specs.Ink.{farthest, next, place_after, inked, Writes}
+use Rattle.apdu_text.specs.declared.pen.Pen.{Pen}
 
 -- ---- one character
 
-pub next_near : (at : ℕ) → at < farthest → at + 1 ≡ next at
+pub next_is : (at : ℕ) → at ≤ farthest → min (at + 1) farthest ≡ next at
 unfolding next
-next_near at h = rw (lt-ltb at farthest h)
+next_is at h = by_test (λ (k : ℕ). min (at + 1) farthest ≡ k) (ltb at farthest) (λ t. omega (arith, borrow.Author.Tests.ltb-true at farthest t)) (λ t. omega (arith, borrow.Author.Tests.ltb-false at farthest t))
 
-pub next_far : (at : ℕ) → farthest ≤ at → at ≡ next at
-unfolding next
-next_far at h = rw (le-ltb at farthest h)
-
-pub set_inks : (out : List ℕ) (c at : ℕ) {r : ℕ} → r ≡ next at → Inks (c ∷ []) at r out (set out at c)
+pub set_writes : (o : Pen) (c : ℕ) {p : Pen} {r : ℕ} → p ≡ record o { out = record o.out { now = set o.out.now o.at c } } → o.at ≤ farthest → r ≡ min (p.at + 1) farthest
+    → Writes (c ∷ []) o record { out = p.out; at = r }
 unfolding place_after inked
-set_inks out c at e = record { place = e; octets = refl }
+set_writes o c e h f = record {
+  same = ap (λ (p : Pen). p.out.ghost_name) e;
+  place = f ∙ ap (λ (p : Pen). min (p.at + 1) farthest) e ∙ next_is o.at h;
+  octets = ap (λ (p : Pen). p.out.now) e;
+}
 
-pub out_inks : (out : List ℕ) (c at : ℕ) {r : ℕ} → length out ≤ at → r ≡ next at → Inks (c ∷ []) at r out out
+pub out_writes : (o : Pen) (c : ℕ) {p : Pen} {r : ℕ} → p ≡ o → length o.out.now ≤ o.at → o.at ≤ farthest → r ≡ min (p.at + 1) farthest → Writes (c ∷ []) o record { out = p.out; at = r }
 unfolding place_after inked
-out_inks out c at h e = record { place = e; octets = sym (set_out out at c h) }
+out_writes o c e j h f = record {
+  same = ap (λ (p : Pen). p.out.ghost_name) e;
+  place = f ∙ ap (λ (p : Pen). min (p.at + 1) farthest) e ∙ next_is o.at h;
+  octets = ap (λ (p : Pen). p.out.now) e ∙ sym (set_out o.out.now o.at c j);
+}
 
 -- ---- one text behind another
 
-pub none_inks : (at : ℕ) (out : List ℕ) → Inks [] at at out out
+pub none_writes : (o : Pen) → Writes [] o o
 unfolding place_after inked
-none_inks at out = record { place = refl; octets = refl }
+none_writes o = record { same = refl; place = refl; octets = refl }
 
 place_append : (at : ℕ) (a b : List ℕ) → place_after at (a ++ b) ≡ place_after (place_after at a) b
 unfolding place_after
@@ -51,50 +56,66 @@ unfolding place_after inked
 inked_append out at [] b = refl
 inked_append out at (c ∷ a) b = inked_append (set out at c) (next at) a b
 
-pub inks_then : {a b : List ℕ} {at m r : ℕ} {o p q : List ℕ} → Inks a at m o p → Inks b m r p q → Inks (a ++ b) at r o q
-inks_then {a} {b} {at} {m} {r} {o} {p} {q} x y =
+pub writes_then : {a b : List ℕ} {o p q : Pen} → Writes a o p → Writes b p q → Writes (a ++ b) o q
+writes_then {a} {b} {o} {p} {q} x y =
     let i = x.place in
     let j = x.octets in
     record {
-      place = y.place ∙ ap (λ (k : ℕ). place_after k b) i ∙ sym (place_append at a b);
-      octets = y.octets ∙ rw (j, i) (sym (inked_append o at a b));
+      same = y.same ∙ x.same;
+      place = y.place ∙ ap (λ (k : ℕ). place_after k b) i ∙ sym (place_append o.at a b);
+      octets = y.octets ∙ rw (j, i) (sym (inked_append o.out.now o.at a b));
     }
 
-pub inks_as : {a b : List ℕ} {at r : ℕ} {o p : List ℕ} → a ≡ b → Inks a at r o p → Inks b at r o p
-inks_as e x = rw e at x
+pub writes_as : {a b : List ℕ} {o p : Pen} → a ≡ b → Writes a o p → Writes b o p
+writes_as e x = rw e at x
+
+-- the pen under another name
+pub writes_at : {a : List ℕ} {o p q : Pen} → q ≡ p → Writes a o p → Writes a o q
+writes_at e x = rw e x
+
+pub writes_from : {a : List ℕ} {o p q : Pen} → p ≡ o → Writes a p q → Writes a o q
+writes_from e x = rw e at x
 
 -- if it is there
-pub when_there : {p : Bool} (a : List ℕ) {at r : ℕ} {o q : List ℕ} → p ≡ true → Inks a at r o q → Inks (when p a) at r o q
+pub when_there : {p : Bool} (a : List ℕ) {o q : Pen} → p ≡ true → Writes a o q → Writes (when p a) o q
 when_there a e x = rw e x
 
-pub when_absent : {p : Bool} (a : List ℕ) (at : ℕ) (o : List ℕ) → p ≡ false → Inks (when p a) at at o o
-when_absent a at o e = rw e (none_inks at o)
+pub when_absent : {p : Bool} (a : List ℕ) (o : Pen) → p ≡ false → Writes (when p a) o o
+when_absent a o e = rw e (none_writes o)
 
 -- ---- a text in turns: what is left of it
 
-pub record Leaves (text : List ℕ) (at : ℕ) (out rest : List ℕ) (now : ℕ) (after : List ℕ) : Type 0 where
-  pub place : place_after at text ≡ place_after now rest
-  pub octets : inked out at text ≡ inked after now rest
+pub record Leaves (text : List ℕ) (o : Pen) (rest : List ℕ) (p : Pen) : Type 0 where
+  pub same : p.out.ghost_name ≡ o.out.ghost_name
+  pub place : place_after o.at text ≡ place_after p.at rest
+  pub octets : inked o.out.now o.at text ≡ inked p.out.now p.at rest
 
-pub leaves_all : (text : List ℕ) (at : ℕ) (out : List ℕ) → Leaves text at out text at out
-leaves_all text at out = record { place = refl; octets = refl }
+pub leaves_all : (text : List ℕ) (o : Pen) → Leaves text o text o
+leaves_all text o = record { same = refl; place = refl; octets = refl }
 
-pub leaves_more : {text : List ℕ} {at : ℕ} {out : List ℕ} {a rest : List ℕ} {m r : ℕ} {p q : List ℕ}
-    → Leaves text at out (a ++ rest) m p → Inks a m r p q → Leaves text at out rest r q
-leaves_more {text} {at} {out} {a} {rest} {m} {r} {p} {q} l x =
+pub leaves_more : {text : List ℕ} {o : Pen} {a rest : List ℕ} {p q : Pen} → Leaves text o (a ++ rest) p → Writes a p q → Leaves text o rest q
+leaves_more {text} {o} {a} {rest} {p} {q} l x =
     let i = x.place in
     let j = x.octets in
     record {
-      place = l.place ∙ place_append m a rest ∙ ap (λ (k : ℕ). place_after k rest) (sym i);
-      octets = l.octets ∙ inked_append p m a rest ∙ rw (j, i) refl;
+      same = x.same ∙ l.same;
+      place = l.place ∙ place_append p.at a rest ∙ ap (λ (k : ℕ). place_after k rest) (sym i);
+      octets = l.octets ∙ inked_append p.out.now p.at a rest ∙ rw (j, i) refl;
     }
 
-pub leaves_as : {text : List ℕ} {at : ℕ} {out : List ℕ} {a b : List ℕ} {m : ℕ} {p : List ℕ} → a ≡ b → Leaves text at out a m p → Leaves text at out b m p
+pub leaves_as : {text : List ℕ} {o : Pen} {a b : List ℕ} {p : Pen} → a ≡ b → Leaves text o a p → Leaves text o b p
 leaves_as e l = rw e at l
 
-pub leaves_none : {text : List ℕ} {at : ℕ} {out : List ℕ} {m : ℕ} {p : List ℕ} → Leaves text at out [] m p → Inks text at m out p
+pub leaves_at : {text : List ℕ} {o : Pen} {a : List ℕ} {p q : Pen} → q ≡ p → Leaves text o a p → Leaves text o a q
+leaves_at e l = rw e l
+
+pub leaves_none : {text : List ℕ} {o p : Pen} → Leaves text o [] p → Writes text o p
 unfolding place_after inked
-leaves_none l = record { place = sym l.place; octets = sym l.octets }
+leaves_none l = record { same = l.same; place = sym l.place; octets = sym l.octets }
+
+-- what is left is written at once
+pub leaves_end : {text : List ℕ} {o : Pen} {a : List ℕ} {p q : Pen} → Leaves text o a p → Writes a p q → Writes text o q
+leaves_end {a = a} l x = leaves_none (leaves_more {rest = []} (leaves_as (sym (mathlib.Core.List.append-nil a)) l) x)
 
 -- ---- where a text has room
 
@@ -105,6 +126,10 @@ next_grows at = by_test (λ (k : ℕ). at ≤ k) (ltb at farthest) (λ t. omega 
 next_most : (at : ℕ) → next at ≤ at + 1
 unfolding next
 next_most at = by_test (λ (k : ℕ). k ≤ at + 1) (ltb at farthest) (λ t. omega arith) (λ t. omega arith)
+
+next_near : (at : ℕ) → at < farthest → at + 1 ≡ next at
+unfolding next
+next_near at h = rw (lt-ltb at farthest h)
 
 place_grows : (at : ℕ) (text : List ℕ) → at ≤ place_after at text
 unfolding place_after
@@ -134,21 +159,17 @@ inked_sets out at (c ∷ text) h =
     inked_sets (set out at c) (next at) text h ∙ ap (λ (k : ℕ). sets (set out at c) k text) e
 
 -- measured, and then written
-module _ (out : List ℕ) (at : ℕ) (text : List ℕ) (small : length out < 9223372036854775808) {none some : List ℕ} {size : ℕ} (m : Inks text at size none some) where
-  pub no_room : length out < size → (appended_answer (appended.Refused 22) ≡ append_text out at text) × (out ≡ output_after (appended_answer (appended.Refused 22)) out at text)
-  unfolding appended_answer append_text has_room output_after
+module _ (out : List ℕ) (at : ℕ) (text : List ℕ) {size : ℕ} (m : size ≡ place_after at text) where
+  pub no_room : length out < size → (refused 22 ≡ append_text out at text) × (out ≡ output_after (refused 22) out at text)
+  unfolding append_text has_room output_after
   no_room h =
-      let e = m.place in
       let k : length out < at + length text = omega (arith, place_most at text) in
       (simp (lt-leb (at + length text) (length out) k), refl)
 
-  pub room_for : {after : List ℕ} {r : ℕ} → size ≤ length out → Inks text at r out after
-      → (appended_answer (appended.Next r) ≡ append_text out at text) × (after ≡ output_after (appended_answer (appended.Next r)) out at text)
-  unfolding appended_answer append_text has_room output_after written
-  room_for h w =
-      let e = m.place in
-      let f = w.place in
-      let g = w.octets in
+  pub room_for : length out < 9223372036854775808 → {after : List ℕ} {r : ℕ} → size ≤ length out → r ≡ place_after at text → after ≡ inked out at text
+      → (accepted r ≡ append_text out at text) × (after ≡ output_after (accepted r) out at text)
+  unfolding append_text has_room output_after written
+  room_for small h f g =
       let near : place_after at text < farthest = omega arith in
       let i : place_after at text ≡ at + length text = place_is at text near in
       let k : at + length text ≤ length out = omega arith in (

@@ -3,6 +3,7 @@
 -- Assumes nothing.
 use Rattle.std.specs.Prelude.{ℕ, zero, suc, ◌+◌, ◌≡◌, List, [], ◌∷◌, get_or, set, ltb}
 use Rattle.refusals.specs.Check.{pick}
+use Rattle.apdu_text.specs.declared.pen.Pen.{Pen}
 
 -- the largest place
 abbrev pub farthest : ℕ
@@ -22,10 +23,11 @@ unfoldable pub inked : List ℕ → ℕ → List ℕ → List ℕ
 inked out at [] = out
 inked out at (c ∷ text) = inked (set out at c) (next at) text
 
--- from place at to place r the text was written, and out became after
-pub record Inks (text : List ℕ) (at r : ℕ) (out after : List ℕ) : Type 0 where
-  pub place : r ≡ place_after at text
-  pub octets : after ≡ inked out at text
+-- a text was written: the pen is behind it, over the same output
+pub record Writes (text : List ℕ) (before after : Pen) : Type 0 where
+  pub same : after.out.ghost_name ≡ before.out.ghost_name
+  pub place : after.at ≡ place_after before.at text
+  pub octets : after.out.now ≡ inked before.out.now before.at text
 
 -- an array of so many open lists, the innermost last, as a stack
 unfoldable pub stack_of : List ℕ → ℕ → List ℕ

@@ -1,51 +1,54 @@
 // Text appended to a lent buffer from a place on: every other octet of the buffer stays, and where the text has no room, nothing is written (22).
-// A text is measured first, by the code that writes it.
-ghost use Rattle.std.specs.Prelude.{◌≡◌};
+ghost use Rattle.std.specs.Prelude.{◌≡◌, ℕ, List};
+ghost use Rattle.refusals.specs.Refusal.{answer_of};
 ghost use Rattle.bench_lines.specs.Line.{hex_text};
-ghost use Rattle.bench_lines.specs.Text.{append_text, appended_answer, output_after};
+ghost use Rattle.bench_lines.specs.Text.{append_text, output_after};
 ghost use Rattle.apdu_text.specs.Words.{heading};
 ghost use Rattle.apdu_text.specs.Parts.{decimal};
 ghost use Rattle.apdu_text.specs.MessageText.{message_text};
 ghost use Rattle.apdu_text.specs.Lines.{refusal_text, totals_text};
-ghost use Rattle.apdu_text.specs.Ink.{Inks};
+ghost use Rattle.apdu_text.specs.Ink.{Writes};
 
-use crate::fields::number;
-use crate::message::put_message;
-use crate::pen::{put, put_decimal, put_hex, put_word};
+use crate::pen::Pen;
 use apdu::{Entry, Message, Row};
-use bench_lines::Appended;
+use refusals::Refusal;
+
+// Appends what `write` writes, which is measured first.
+fn append<F: Fn(&mut Pen)>(out: &mut [u8], at: usize, write: F) -> Result<usize, Refusal>
+    ghost text: { List ℕ }
+    requires callable { F.IsAlwaysCallable write }
+    requires writes { (p : _) (q : _) → F.post write p tt q → Writes text p.now q.now }
+    ensures { (answer_of result ≡ append_text out.old at text) × (out.new ≡ output_after (answer_of result) out.old at text) }
+{
+    let mut measure = Pen { out: &mut [], at };
+    write(&mut measure);
+    if out.len() < measure.at {
+        return Err(Refusal::OutputTooSmall);
+    }
+    let mut pen = Pen { out, at };
+    write(&mut pen);
+    Ok(pen.at)
+}
 
 // Appends characters as they are.
-pub fn append_word(word: &[u8], out: &mut [u8], at: usize) -> Appended
-    ensures { (appended_answer result ≡ append_text out.old at word.now) × (out.new ≡ output_after (appended_answer result) out.old at word.now) }
+pub fn append_word(word: &[u8], out: &mut [u8], at: usize) -> Result<usize, Refusal>
+    ensures { (answer_of result ≡ append_text out.old at word.now) × (out.new ≡ output_after (answer_of result) out.old at word.now) }
 {
-    let mut none: [u8; 1] = [0; 1];
-    if out.len() < put_word(&mut none, word, at) {
-        return Appended::Refused(refusals::OUTPUT_TOO_SMALL);
-    }
-    Appended::Next(put_word(out, word, at))
+    append(out, at, |pen| pen.word(word))
 }
 
 // Appends a number in decimal.
-pub fn append_decimal(n: u64, out: &mut [u8], at: usize) -> Appended
-    ensures { (appended_answer result ≡ append_text out.old at (decimal n)) × (out.new ≡ output_after (appended_answer result) out.old at (decimal n)) }
+pub fn append_decimal(n: u64, out: &mut [u8], at: usize) -> Result<usize, Refusal>
+    ensures { (answer_of result ≡ append_text out.old at (decimal n)) × (out.new ≡ output_after (answer_of result) out.old at (decimal n)) }
 {
-    let mut none: [u8; 1] = [0; 1];
-    if out.len() < put_decimal(&mut none, n, at) {
-        return Appended::Refused(refusals::OUTPUT_TOO_SMALL);
-    }
-    Appended::Next(put_decimal(out, n, at))
+    append(out, at, |pen| pen.decimal(n))
 }
 
 // Appends octets in upper-case hex.
-pub fn append_hex(octets: &[u8], out: &mut [u8], at: usize) -> Appended
-    ensures { (appended_answer result ≡ append_text out.old at (hex_text octets.now)) × (out.new ≡ output_after (appended_answer result) out.old at (hex_text octets.now)) }
+pub fn append_hex(octets: &[u8], out: &mut [u8], at: usize) -> Result<usize, Refusal>
+    ensures { (answer_of result ≡ append_text out.old at (hex_text octets.now)) × (out.new ≡ output_after (answer_of result) out.old at (hex_text octets.now)) }
 {
-    let mut none: [u8; 1] = [0; 1];
-    if out.len() < put_hex(&mut none, octets, at) {
-        return Appended::Refused(refusals::OUTPUT_TOO_SMALL);
-    }
-    Appended::Next(put_hex(out, octets, at))
+    append(out, at, |pen| pen.hex(octets))
 }
 
 // Appends the text of a message, whatever its record holds.
@@ -56,61 +59,59 @@ pub fn append_message(
     lent: &[u8],
     out: &mut [u8],
     at: usize,
-) -> Appended
-    ensures { (appended_answer result ≡ append_text out.old at (message_text lent.now message entries rows)) × (out.new ≡ output_after (appended_answer result) out.old at (message_text lent.now message entries rows)) }
+) -> Result<usize, Refusal>
+    ensures { (answer_of result ≡ append_text out.old at (message_text lent.now message entries rows)) × (out.new ≡ output_after (answer_of result) out.old at (message_text lent.now message entries rows)) }
 {
-    let mut none: [u8; 1] = [0; 1];
-    if out.len() < put_message(&mut none, lent, message, entries, rows, at) {
-        return Appended::Refused(refusals::OUTPUT_TOO_SMALL);
-    }
-    Appended::Next(put_message(out, lent, message, entries, rows, at))
-}
-
-// `refused-N at P`, or `refused-0`.
-fn put_refusal(out: &mut [u8], refusal: u8, position: usize, at: usize) -> usize
-    ensures { Inks (refusal_text refusal position) at result out.old out.new }
-{
-    let behind = number(out, b"refused-", refusal as u64, at);
-    if refusal == 0 {
-        return behind;
-    }
-    number(out, b" at ", position as u64, behind)
+    append(out, at, |pen| pen.message(lent, message, &entries, &rows))
 }
 
 // Appends a refusal with its position; refusal 0 has none.
-pub fn append_refusal(refusal: u8, position: usize, out: &mut [u8], at: usize) -> Appended
-    ensures { (appended_answer result ≡ append_text out.old at (refusal_text refusal position)) × (out.new ≡ output_after (appended_answer result) out.old at (refusal_text refusal position)) }
+pub fn append_refusal(
+    refusal: u8,
+    position: usize,
+    out: &mut [u8],
+    at: usize,
+) -> Result<usize, Refusal>
+    ensures { (answer_of result ≡ append_text out.old at (refusal_text refusal position)) × (out.new ≡ output_after (answer_of result) out.old at (refusal_text refusal position)) }
 {
-    let mut none: [u8; 1] = [0; 1];
-    if out.len() < put_refusal(&mut none, refusal, position, at) {
-        return Appended::Refused(refusals::OUTPUT_TOO_SMALL);
-    }
-    Appended::Next(put_refusal(out, refusal, position, at))
+    append(out, at, |pen| pen.refusal(refusal, position))
 }
 
 // Appends the heading, `line answer`.
-pub fn append_heading(out: &mut [u8], at: usize) -> Appended
-    ensures { (appended_answer result ≡ append_text out.old at heading) × (out.new ≡ output_after (appended_answer result) out.old at heading) }
+pub fn append_heading(out: &mut [u8], at: usize) -> Result<usize, Refusal>
+    ensures { (answer_of result ≡ append_text out.old at heading) × (out.new ≡ output_after (answer_of result) out.old at heading) }
 {
     append_word(b"line answer\n", out, at)
 }
 
-fn put_totals(out: &mut [u8], messages: u64, refused: u64, same: u64, at: usize) -> usize
-    ensures { Inks (totals_text messages refused same) at result out.old out.new }
+// Appends the totals.
+pub fn append_totals(
+    messages: u64,
+    refused: u64,
+    same: u64,
+    out: &mut [u8],
+    at: usize,
+) -> Result<usize, Refusal>
+    ensures { (answer_of result ≡ append_text out.old at (totals_text messages refused same)) × (out.new ≡ output_after (answer_of result) out.old at (totals_text messages refused same)) }
 {
-    let b = number(out, b"messages ", messages, at);
-    let c = number(out, b" refused ", refused, b);
-    let d = number(out, b" same ", same, c);
-    put(out, b'\n', d)
+    append(out, at, |pen| pen.totals(messages, refused, same))
 }
 
-// Appends the totals.
-pub fn append_totals(messages: u64, refused: u64, same: u64, out: &mut [u8], at: usize) -> Appended
-    ensures { (appended_answer result ≡ append_text out.old at (totals_text messages refused same)) × (out.new ≡ output_after (appended_answer result) out.old at (totals_text messages refused same)) }
-{
-    let mut none: [u8; 1] = [0; 1];
-    if out.len() < put_totals(&mut none, messages, refused, same, at) {
-        return Appended::Refused(refusals::OUTPUT_TOO_SMALL);
+impl Pen<'_> {
+    // `refused-N at P`, or `refused-0`.
+    fn refusal(&mut self, refusal: u8, position: usize)
+        ensures { Writes (refusal_text refusal position) self.old self.new }
+    {
+        self.number(b"refused-", u64::from(refusal));
+        self.number_if(refusal != 0, b" at ", position as u64);
     }
-    Appended::Next(put_totals(out, messages, refused, same, at))
+
+    fn totals(&mut self, messages: u64, refused: u64, same: u64)
+        ensures { Writes (totals_text messages refused same) self.old self.new }
+    {
+        self.number(b"messages ", messages);
+        self.number(b" refused ", refused);
+        self.number(b" same ", same);
+        self.character(b'\n');
+    }
 }

@@ -1,111 +1,74 @@
 // Containers up to their rows, and what stands behind a row.
-ghost use Rattle.std.specs.Prelude.{◌≡◌, ◌-◌, ◌≤◌, length, ◌++◌};
-ghost use Rattle.apdu.specs.Sound.{nested};
+ghost use Rattle.std.specs.Prelude.{◌≡◌, ◌≤◌, length};
 ghost use Rattle.apdu_text.specs.Parts.{list_front, container_front, row_front, seam, going_on};
-ghost use Rattle.apdu_text.specs.Words.{attributes_of};
-ghost use Rattle.apdu_text.specs.Ink.{Inks, stack_of};
+ghost use Rattle.apdu_text.specs.Ink.{Writes, stack_of};
 
-use crate::fields::{list, number, string};
-use crate::pen::{put, put_decimal, put_word};
-use apdu::Row;
+use crate::pen::Pen;
+use apdu::{ATTRIBUTE_ID_LIST, ATTRIBUTE_LIST, DSRC_EID, OCTET_STRING, Row};
 
-// How many rows a container announces.
-pub(crate) fn announces(kind: u64, n: u64) -> u64
-    ensures { result ≡ nested kind n }
-{
-    if kind == apdu::ATTRIBUTE_LIST {
-        return n;
-    }
-    0
-}
-
-// `[`, and `]` at once for a list of no rows.
-pub(crate) fn list_front(out: &mut [u8], n: u64, at: usize) -> usize
-    ensures { Inks (list_front n) at result out.old out.new }
-{
-    if n == 0 {
-        return put_word(out, b"[]", at);
-    }
-    put(out, b'[', at)
-}
-
-fn attribute_list(out: &mut [u8], n: u64, at: usize) -> usize
-    ensures { Inks (attributes_of ++ list_front n) at result out.old out.new }
-{
-    let front = put_word(out, b"attributes:", at);
-    list_front(out, n, front)
-}
-
-// A container up to its rows; nothing for a kind that is not shown.
-pub(crate) fn container_front(
-    out: &mut [u8],
-    s: &[u8],
-    kind: u64,
-    n: u64,
-    start: usize,
-    at: usize,
-) -> usize
-    ensures { Inks (container_front s.now kind n start) at result out.old out.new }
-{
-    if kind == apdu::OCTET_STRING {
-        return string(out, b"octets:", s, start, n, at);
-    }
-    if kind == apdu::DSRC_EID {
-        return number(out, b"eid:", n, at);
-    }
-    if kind == apdu::ATTRIBUTE_ID_LIST {
-        return list(out, b"ids:", s, start, n, at);
-    }
-    if kind == apdu::ATTRIBUTE_LIST {
-        return attribute_list(out, n, at);
-    }
-    at
-}
-
-// A row up to its own rows.
-pub(crate) fn row_front(out: &mut [u8], s: &[u8], row: Row, at: usize) -> usize
-    ensures { Inks (row_front s.now row) at result out.old out.new }
-{
-    let sign = put_decimal(out, row.id as u64, at);
-    let value = put(out, b'=', sign);
-    container_front(
-        out,
-        s,
-        row.kind as u64,
-        row.n as u64,
-        row.start as usize,
-        value,
-    )
-}
-
-// `]` for each of the innermost lists that ends, and `,` if another goes on.
-pub(crate) fn put_seam(out: &mut [u8], due: &[u64], depth: usize, at: usize) -> usize
-    requires { depth ≤ length due.now }
-    ensures { Inks (seam (stack_of due.now depth)) at result out.old out.new }
-{
-    let mut p = at;
-    let mut k = depth;
-    while 0 < k {
-        if due[k - 1] != 0 {
-            return put(out, b',', p);
+impl Pen<'_> {
+    // `[`, and `]` at once for a list of no rows.
+    pub(crate) fn list_front(&mut self, n: u64)
+        ensures { Writes (list_front n) self.old self.new }
+    {
+        self.character(b'[');
+        if n == 0 {
+            self.character(b']');
         }
-        p = put(out, b']', p);
-        k -= 1;
     }
-    p
+
+    // A container up to its rows; nothing for a kind that is not shown.
+    pub(crate) fn container_front(&mut self, s: &[u8], kind: u64, n: u64, start: usize)
+        ensures { Writes (container_front s.now kind n start) self.old self.new }
+    {
+        match kind {
+            OCTET_STRING => self.string(b"octets:", s, start, n),
+            DSRC_EID => self.number(b"eid:", n),
+            ATTRIBUTE_ID_LIST => self.list(b"ids:", s, start, n),
+            ATTRIBUTE_LIST => {
+                self.word(b"attributes:");
+                self.list_front(n);
+            }
+            _ => {}
+        }
+    }
+
+    // A row up to its own rows.
+    pub(crate) fn row_front(&mut self, s: &[u8], row: Row)
+        ensures { Writes (row_front s.now row) self.old self.new }
+    {
+        self.decimal(u64::from(row.id));
+        self.character(b'=');
+        self.container_front(
+            s,
+            u64::from(row.kind),
+            u64::from(row.n),
+            row.start as usize,
+        );
+    }
+
+    // `]` for each of the innermost lists that ends, and `,` if another goes on; `due` holds how many rows are to come in each open list.
+    pub(crate) fn seam(&mut self, due: &[u64])
+        ensures { Writes (seam (stack_of due.now (length due.now))) self.old self.new }
+    {
+        for k in (0..due.len()).rev() {
+            if due[k] != 0 {
+                self.character(b',');
+                return;
+            }
+            self.character(b']');
+        }
+    }
 }
 
-// How many lists go on.
-pub(crate) fn going_on(due: &[u64], depth: usize) -> usize
-    requires { depth ≤ length due.now }
-    ensures { (stack_of due.now result ≡ going_on (stack_of due.now depth)) × (result ≤ depth) }
+// How many of the open lists go on.
+pub(crate) fn going_on(due: &[u64]) -> usize
+    ensures { (stack_of due.now result ≡ going_on (stack_of due.now (length due.now))) × (result ≤ length due.now) }
 {
-    let mut k = depth;
-    while 0 < k {
-        if due[k - 1] != 0 {
-            return k;
+    for k in (0..due.len()).rev() {
+        if due[k] != 0 {
+            return k + 1;
         }
-        k -= 1;
     }
     0
 }

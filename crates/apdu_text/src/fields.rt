@@ -3,9 +3,9 @@ ghost use Rattle.std.specs.Prelude.{◌≡◌, ◌++◌, ◌+◌, ◌*◌, ◌<�
 ghost use Rattle.bits.specs.Bits.{field};
 ghost use Rattle.bench_lines.specs.Line.{hex_text};
 ghost use Rattle.apdu_text.specs.Parts.{decimal, shown, part_at, when, number_list};
-ghost use Rattle.apdu_text.specs.Ink.{Inks};
+ghost use Rattle.apdu_text.specs.Ink.{Writes};
 
-use crate::pen::{put, put_decimal, put_octet, put_word};
+use crate::pen::Pen;
 
 // The octets in which a part may lie.
 const REACH: usize = 65536;
@@ -14,13 +14,12 @@ const REACH: usize = 65536;
 fn shown(octets: usize, start: usize, n: u64) -> usize
     ensures { result ≡ shown octets start n }
 {
-    if !bits::inside(octets, start, n as usize) {
-        return 0;
+    let n = n as usize;
+    if bits::inside(octets, start, n) && bits::inside(REACH, start, n) {
+        n
+    } else {
+        0
     }
-    if !bits::inside(REACH, start, n as usize) {
-        return 0;
-    }
-    n as usize
 }
 
 // Octet `k` of a part.
@@ -31,104 +30,74 @@ fn octet(s: &[u8], start: usize, k: usize) -> u8
     bits::read_field(s, start + 8 * k, 8) as u8
 }
 
-// The octets of a part in hex.
-pub(crate) fn put_part(out: &mut [u8], s: &[u8], start: usize, n: u64, at: usize) -> usize
-    ensures { Inks (hex_text (part_at s.now start n)) at result out.old out.new }
-{
-    let most = shown(s.len(), start, n);
-    let mut p = at;
-    let mut k: usize = 0;
-    while k < most {
-        p = put_octet(out, octet(s, start, k), p);
-        k += 1;
-    }
-    p
-}
-
-// The numbers of a part in brackets.
-pub(crate) fn put_list(out: &mut [u8], s: &[u8], start: usize, n: u64, at: usize) -> usize
-    ensures { Inks (number_list (part_at s.now start n)) at result out.old out.new }
-{
-    let most = shown(s.len(), start, n);
-    let mut p = put(out, b'[', at);
-    let mut k: usize = 0;
-    while k < most {
-        p = put_decimal(out, octet(s, start, k) as u64, p);
-        k += 1;
-        if k < most {
-            p = put(out, b',', p);
+impl Pen<'_> {
+    // The octets of a part in hex.
+    fn part(&mut self, s: &[u8], start: usize, n: u64)
+        ensures { Writes (hex_text (part_at s.now start n)) self.old self.new }
+    {
+        let most = shown(s.len(), start, n);
+        for k in 0..most {
+            self.octet(octet(s, start, k));
         }
     }
-    put(out, b']', p)
-}
 
-pub(crate) fn number(out: &mut [u8], name: &[u8], n: u64, at: usize) -> usize
-    ensures { Inks (name.now ++ decimal n) at result out.old out.new }
-{
-    let value = put_word(out, name, at);
-    put_decimal(out, n, value)
-}
-
-pub(crate) fn number_if(p: bool, out: &mut [u8], name: &[u8], n: u64, at: usize) -> usize
-    ensures { Inks (when p (name.now ++ decimal n)) at result out.old out.new }
-{
-    if p {
-        return number(out, name, n, at);
+    // The numbers of a part in brackets.
+    fn numbers(&mut self, s: &[u8], start: usize, n: u64)
+        ensures { Writes (number_list (part_at s.now start n)) self.old self.new }
+    {
+        let most = shown(s.len(), start, n);
+        self.character(b'[');
+        for k in 0..most {
+            self.decimal(u64::from(octet(s, start, k)));
+            if k + 1 < most {
+                self.character(b',');
+            }
+        }
+        self.character(b']');
     }
-    at
-}
 
-pub(crate) fn string(
-    out: &mut [u8],
-    name: &[u8],
-    s: &[u8],
-    start: usize,
-    n: u64,
-    at: usize,
-) -> usize
-    ensures { Inks (name.now ++ hex_text (part_at s.now start n)) at result out.old out.new }
-{
-    let value = put_word(out, name, at);
-    put_part(out, s, start, n, value)
-}
-
-pub(crate) fn string_if(
-    p: bool,
-    out: &mut [u8],
-    name: &[u8],
-    s: &[u8],
-    start: usize,
-    n: u64,
-    at: usize,
-) -> usize
-    ensures { Inks (when p (name.now ++ hex_text (part_at s.now start n))) at result out.old out.new }
-{
-    if p {
-        return string(out, name, s, start, n, at);
+    pub(crate) fn number(&mut self, name: &[u8], n: u64)
+        ensures { Writes (name.now ++ decimal n) self.old self.new }
+    {
+        self.word(name);
+        self.decimal(n);
     }
-    at
-}
 
-pub(crate) fn list(out: &mut [u8], name: &[u8], s: &[u8], start: usize, n: u64, at: usize) -> usize
-    ensures { Inks (name.now ++ number_list (part_at s.now start n)) at result out.old out.new }
-{
-    let value = put_word(out, name, at);
-    put_list(out, s, start, n, value)
-}
-
-pub(crate) fn list_if(
-    p: bool,
-    out: &mut [u8],
-    name: &[u8],
-    s: &[u8],
-    start: usize,
-    n: u64,
-    at: usize,
-) -> usize
-    ensures { Inks (when p (name.now ++ number_list (part_at s.now start n))) at result out.old out.new }
-{
-    if p {
-        return list(out, name, s, start, n, at);
+    pub(crate) fn number_if(&mut self, is: bool, name: &[u8], n: u64)
+        ensures { Writes (when is (name.now ++ decimal n)) self.old self.new }
+    {
+        if is {
+            self.number(name, n);
+        }
     }
-    at
+
+    pub(crate) fn string(&mut self, name: &[u8], s: &[u8], start: usize, n: u64)
+        ensures { Writes (name.now ++ hex_text (part_at s.now start n)) self.old self.new }
+    {
+        self.word(name);
+        self.part(s, start, n);
+    }
+
+    pub(crate) fn string_if(&mut self, is: bool, name: &[u8], s: &[u8], start: usize, n: u64)
+        ensures { Writes (when is (name.now ++ hex_text (part_at s.now start n))) self.old self.new }
+    {
+        if is {
+            self.string(name, s, start, n);
+        }
+    }
+
+    pub(crate) fn list(&mut self, name: &[u8], s: &[u8], start: usize, n: u64)
+        ensures { Writes (name.now ++ number_list (part_at s.now start n)) self.old self.new }
+    {
+        self.word(name);
+        self.numbers(s, start, n);
+    }
+
+    pub(crate) fn list_if(&mut self, is: bool, name: &[u8], s: &[u8], start: usize, n: u64)
+        ensures { Writes (when is (name.now ++ number_list (part_at s.now start n))) self.old self.new }
+    {
+        if is {
+            self.list(name, s, start, n);
+        }
+    }
 }

@@ -1,147 +1,97 @@
 // The fields of the service messages, one function for each record.
-ghost use Rattle.std.specs.Prelude.{◌≡◌};
-ghost use Rattle.apdu.specs.Values.{bit_of};
+ghost use Rattle.std.specs.Prelude.{◌≤◌, length};
 ghost use Rattle.apdu_text.specs.MessageText.{request_text, action_response_text, response_text, set_request_text, get_request_text, get_response_text};
-ghost use Rattle.apdu_text.specs.Ink.{Inks};
+ghost use Rattle.apdu_text.specs.Ink.{Writes};
 
-use crate::fields::{list_if, number, number_if, string_if};
-use crate::rows::{attributes_if, container_if};
+use crate::parts::front;
+use crate::pen::Pen;
 use apdu::{ActionResponse, GetRequest, GetResponse, Request, Response, Row, SetRequest};
 
-fn bit(b: bool) -> u64
-    ensures { result ≡ bit_of b }
-{
-    if b {
-        return 1;
+impl Pen<'_> {
+    // Action or event request.
+    pub(crate) fn request(&mut self, s: &[u8], m: Request, rows: &[Row])
+        requires { length rows.now ≤ 32 }
+        ensures { Writes (request_text s.now m rows.now) self.old self.new }
+    {
+        self.number(b" mode=", u64::from(m.mode));
+        self.number(b" eid=", m.eid);
+        self.number(b" type=", m.service);
+        self.string_if(
+            m.has_credentials,
+            b" credentials=",
+            s,
+            m.credentials,
+            m.credentials_length,
+        );
+        let own = front(rows, m.rows);
+        self.container_if(m.has_parameter, b" parameter=", s, m.kind, m.n, m.start, own);
+        self.number_if(m.has_iid, b" iid=", m.iid);
     }
-    0
-}
 
-// Action or event request.
-pub(crate) fn request(out: &mut [u8], s: &[u8], m: Request, table: [Row; 32], at: usize) -> usize
-    ensures { Inks (request_text s.now m table) at result out.old out.new }
-{
-    let b = number(out, b" mode=", bit(m.mode), at);
-    let c = number(out, b" eid=", m.eid, b);
-    let d = number(out, b" type=", m.service, c);
-    let e = string_if(
-        m.has_credentials,
-        out,
-        b" credentials=",
-        s,
-        m.credentials,
-        m.credentials_length,
-        d,
-    );
-    let f = container_if(
-        m.has_parameter,
-        out,
-        b" parameter=",
-        s,
-        table,
-        0,
-        m.rows,
-        m.kind,
-        m.n,
-        m.start,
-        e,
-    );
-    number_if(m.has_iid, out, b" iid=", m.iid, f)
-}
+    pub(crate) fn action_response(&mut self, s: &[u8], m: ActionResponse, rows: &[Row])
+        requires { length rows.now ≤ 32 }
+        ensures { Writes (action_response_text s.now m rows.now) self.old self.new }
+    {
+        self.number(b" fill=", m.fill);
+        self.number(b" eid=", m.eid);
+        self.number_if(m.has_iid, b" iid=", m.iid);
+        let own = front(rows, m.rows);
+        self.container_if(m.has_parameter, b" parameter=", s, m.kind, m.n, m.start, own);
+        self.number_if(m.has_ret, b" ret=", m.ret);
+    }
 
-pub(crate) fn action_response(
-    out: &mut [u8],
-    s: &[u8],
-    m: ActionResponse,
-    table: [Row; 32],
-    at: usize,
-) -> usize
-    ensures { Inks (action_response_text s.now m table) at result out.old out.new }
-{
-    let b = number(out, b" fill=", m.fill, at);
-    let c = number(out, b" eid=", m.eid, b);
-    let d = number_if(m.has_iid, out, b" iid=", m.iid, c);
-    let e = container_if(
-        m.has_parameter,
-        out,
-        b" parameter=",
-        s,
-        table,
-        0,
-        m.rows,
-        m.kind,
-        m.n,
-        m.start,
-        d,
-    );
-    number_if(m.has_ret, out, b" ret=", m.ret, e)
-}
+    // Event or set response.
+    pub(crate) fn response(&mut self, m: Response)
+        ensures { Writes (response_text m) self.old self.new }
+    {
+        self.number(b" fill=", m.fill);
+        self.number(b" eid=", m.eid);
+        self.number_if(m.has_iid, b" iid=", m.iid);
+        self.number_if(m.has_ret, b" ret=", m.ret);
+    }
 
-// Event or set response.
-pub(crate) fn response(out: &mut [u8], m: Response, at: usize) -> usize
-    ensures { Inks (response_text m) at result out.old out.new }
-{
-    let b = number(out, b" fill=", m.fill, at);
-    let c = number(out, b" eid=", m.eid, b);
-    let d = number_if(m.has_iid, out, b" iid=", m.iid, c);
-    number_if(m.has_ret, out, b" ret=", m.ret, d)
-}
+    pub(crate) fn set_request(&mut self, s: &[u8], m: SetRequest, rows: &[Row])
+        requires { length rows.now ≤ 32 }
+        ensures { Writes (set_request_text s.now m rows.now) self.old self.new }
+    {
+        self.number(b" fill=", m.fill);
+        self.number(b" mode=", u64::from(m.mode));
+        self.number(b" eid=", m.eid);
+        self.string_if(
+            m.has_credentials,
+            b" credentials=",
+            s,
+            m.credentials,
+            m.credentials_length,
+        );
+        self.attributes_if(true, s, m.count, front(rows, m.rows));
+        self.number_if(m.has_iid, b" iid=", m.iid);
+    }
 
-pub(crate) fn set_request(
-    out: &mut [u8],
-    s: &[u8],
-    m: SetRequest,
-    table: [Row; 32],
-    at: usize,
-) -> usize
-    ensures { Inks (set_request_text s.now m table) at result out.old out.new }
-{
-    let b = number(out, b" fill=", m.fill, at);
-    let c = number(out, b" mode=", bit(m.mode), b);
-    let d = number(out, b" eid=", m.eid, c);
-    let e = string_if(
-        m.has_credentials,
-        out,
-        b" credentials=",
-        s,
-        m.credentials,
-        m.credentials_length,
-        d,
-    );
-    let f = attributes_if(true, out, s, table, m.rows, m.count, e);
-    number_if(m.has_iid, out, b" iid=", m.iid, f)
-}
+    pub(crate) fn get_request(&mut self, s: &[u8], m: GetRequest)
+        ensures { Writes (get_request_text s.now m) self.old self.new }
+    {
+        self.number(b" fill=", m.fill);
+        self.number(b" eid=", m.eid);
+        self.string_if(
+            m.has_credentials,
+            b" credentials=",
+            s,
+            m.credentials,
+            m.credentials_length,
+        );
+        self.number_if(m.has_iid, b" iid=", m.iid);
+        self.list_if(m.has_ids, b" ids=", s, m.ids, m.count);
+    }
 
-pub(crate) fn get_request(out: &mut [u8], s: &[u8], m: GetRequest, at: usize) -> usize
-    ensures { Inks (get_request_text s.now m) at result out.old out.new }
-{
-    let b = number(out, b" fill=", m.fill, at);
-    let c = number(out, b" eid=", m.eid, b);
-    let d = string_if(
-        m.has_credentials,
-        out,
-        b" credentials=",
-        s,
-        m.credentials,
-        m.credentials_length,
-        c,
-    );
-    let e = number_if(m.has_iid, out, b" iid=", m.iid, d);
-    list_if(m.has_ids, out, b" ids=", s, m.ids, m.count, e)
-}
-
-pub(crate) fn get_response(
-    out: &mut [u8],
-    s: &[u8],
-    m: GetResponse,
-    table: [Row; 32],
-    at: usize,
-) -> usize
-    ensures { Inks (get_response_text s.now m table) at result out.old out.new }
-{
-    let b = number(out, b" fill=", m.fill, at);
-    let c = number(out, b" eid=", m.eid, b);
-    let d = number_if(m.has_iid, out, b" iid=", m.iid, c);
-    let e = attributes_if(m.has_attributes, out, s, table, m.rows, m.count, d);
-    number_if(m.has_ret, out, b" ret=", m.ret, e)
+    pub(crate) fn get_response(&mut self, s: &[u8], m: GetResponse, rows: &[Row])
+        requires { length rows.now ≤ 32 }
+        ensures { Writes (get_response_text s.now m rows.now) self.old self.new }
+    {
+        self.number(b" fill=", m.fill);
+        self.number(b" eid=", m.eid);
+        self.number_if(m.has_iid, b" iid=", m.iid);
+        self.attributes_if(m.has_attributes, s, m.count, front(rows, m.rows));
+        self.number_if(m.has_ret, b" ret=", m.ret);
+    }
 }

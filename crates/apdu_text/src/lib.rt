@@ -10,6 +10,7 @@ mod fields;
 mod kinds;
 mod link;
 mod message;
+mod parts;
 mod pen;
 mod rows;
 

@@ -1,63 +1,58 @@
 // A message of any kind.
+ghost use Rattle.std.specs.Prelude.{◌≤◌, length};
 ghost use Rattle.apdu_text.specs.MessageText.{message_text};
-ghost use Rattle.apdu_text.specs.Ink.{Inks};
+ghost use Rattle.apdu_text.specs.Ink.{Writes};
 
-use crate::kinds::{action_response, get_request, get_response, request, response, set_request};
-use crate::link::{bst, vst};
-use crate::pen::put_word;
+use crate::pen::Pen;
 use apdu::{Entry, Message, Row};
 
-// The kind of a message and its fields.
-pub(crate) fn put_message(
-    out: &mut [u8],
-    s: &[u8],
-    m: Message,
-    all: [Entry; 32],
-    table: [Row; 32],
-    at: usize,
-) -> usize
-    ensures { Inks (message_text s.now m all table) at result out.old out.new }
-{
-    match m {
-        Message::ActionRequest(x) => {
-            let b = put_word(out, b"action-request", at);
-            request(out, s, x, table, b)
-        }
-        Message::ActionResponse(x) => {
-            let b = put_word(out, b"action-response", at);
-            action_response(out, s, x, table, b)
-        }
-        Message::EventRequest(x) => {
-            let b = put_word(out, b"event-request", at);
-            request(out, s, x, table, b)
-        }
-        Message::EventResponse(x) => {
-            let b = put_word(out, b"event-response", at);
-            response(out, x, b)
-        }
-        Message::SetRequest(x) => {
-            let b = put_word(out, b"set-request", at);
-            set_request(out, s, x, table, b)
-        }
-        Message::SetResponse(x) => {
-            let b = put_word(out, b"set-response", at);
-            response(out, x, b)
-        }
-        Message::GetRequest(x) => {
-            let b = put_word(out, b"get-request", at);
-            get_request(out, s, x, b)
-        }
-        Message::GetResponse(x) => {
-            let b = put_word(out, b"get-response", at);
-            get_response(out, s, x, table, b)
-        }
-        Message::Bst(x) => {
-            let b = put_word(out, b"bst", at);
-            bst(out, s, x, all, table, b)
-        }
-        Message::Vst(x) => {
-            let b = put_word(out, b"vst", at);
-            vst(out, s, x, all, table, b)
+impl Pen<'_> {
+    // The kind of a message and its fields.
+    pub(crate) fn message(&mut self, s: &[u8], m: Message, entries: &[Entry], rows: &[Row])
+        requires { length rows.now ≤ 32 }
+        ensures { Writes (message_text s.now m entries.now rows.now) self.old self.new }
+    {
+        match m {
+            Message::ActionRequest(x) => {
+                self.word(b"action-request");
+                self.request(s, x, rows);
+            }
+            Message::ActionResponse(x) => {
+                self.word(b"action-response");
+                self.action_response(s, x, rows);
+            }
+            Message::EventRequest(x) => {
+                self.word(b"event-request");
+                self.request(s, x, rows);
+            }
+            Message::EventResponse(x) => {
+                self.word(b"event-response");
+                self.response(x);
+            }
+            Message::SetRequest(x) => {
+                self.word(b"set-request");
+                self.set_request(s, x, rows);
+            }
+            Message::SetResponse(x) => {
+                self.word(b"set-response");
+                self.response(x);
+            }
+            Message::GetRequest(x) => {
+                self.word(b"get-request");
+                self.get_request(s, x);
+            }
+            Message::GetResponse(x) => {
+                self.word(b"get-response");
+                self.get_response(s, x, rows);
+            }
+            Message::Bst(x) => {
+                self.word(b"bst");
+                self.bst(s, x, entries, rows);
+            }
+            Message::Vst(x) => {
+                self.word(b"vst");
+                self.vst(s, x, entries, rows);
+            }
         }
     }
 }

@@ -1,56 +1,14 @@
-// The pen: a place in the output, by value. A character is set where the output has room, and the place goes on: so one code measures and writes.
-ghost use Rattle.std.specs.Prelude.{◌≡◌, ◌+◌, ◌/◌, ◌%◌, ◌<◌, [], ◌∷◌};
+// The pen: a place in the output. A character is set where the output has room, and the place goes on: so one code measures and writes.
+ghost use Rattle.std.specs.Prelude.{◌/◌, ◌%◌, ◌<◌, ◌≡◌, [], ◌∷◌};
 ghost use Rattle.bench_lines.specs.Numerals.{digit_for};
 ghost use Rattle.bench_lines.specs.Line.{hex_text};
 ghost use Rattle.apdu_text.specs.Parts.{decimal};
-ghost use Rattle.apdu_text.specs.Ink.{next, Inks};
+ghost use Rattle.apdu_text.specs.Ink.{Writes};
 
-fn step(at: usize) -> usize
-    ensures { result ≡ next at }
-{
-    if at < 18446744073709551615 {
-        return at + 1;
-    }
-    at
-}
-
-// One character.
-pub(crate) fn put(out: &mut [u8], c: u8, at: usize) -> usize
-    ensures { Inks (c ∷ []) at result out.old out.new }
-{
-    if at < out.len() {
-        out[at] = c;
-        return step(at);
-    }
-    step(at)
-}
-
-pub(crate) fn put_word(out: &mut [u8], word: &[u8], at: usize) -> usize
-    ensures { Inks word.now at result out.old out.new }
-{
-    let mut p = at;
-    let mut k: usize = 0;
-    while k < word.len() {
-        p = put(out, word[k], p);
-        k += 1;
-    }
-    p
-}
-
-// A number in decimal.
-pub(crate) fn put_decimal(out: &mut [u8], n: u64, at: usize) -> usize
-    ensures { Inks (decimal n) at result out.old out.new }
-{
-    let mut digits = [0u8; 20];
-    let mut rest = n;
-    let mut i: usize = 19;
-    while 9 < rest {
-        digits[i] = 48 + (rest % 10) as u8;
-        rest /= 10;
-        i -= 1;
-    }
-    digits[i] = 48 + rest as u8;
-    put_word(out, &digits[i..], at)
+#[derive(Drop)]
+pub struct Pen<'a> {
+    pub out: &'a mut [u8],
+    pub at: usize,
 }
 
 // The character of a hex digit.
@@ -58,29 +16,52 @@ fn digit(d: u8) -> u8
     requires { d < 16 }
     ensures { result ≡ digit_for d }
 {
-    if d < 10 {
-        return 48 + d;
-    }
-    55 + d
+    if d < 10 { b'0' + d } else { b'A' - 10 + d }
 }
 
-// An octet in hex.
-pub(crate) fn put_octet(out: &mut [u8], o: u8, at: usize) -> usize
-    ensures { Inks (digit_for (o / 16) ∷ (digit_for (o % 16) ∷ [])) at result out.old out.new }
-{
-    let low = put(out, digit(o / 16), at);
-    put(out, digit(o % 16), low)
-}
-
-// Octets in hex.
-pub(crate) fn put_hex(out: &mut [u8], octets: &[u8], at: usize) -> usize
-    ensures { Inks (hex_text octets.now) at result out.old out.new }
-{
-    let mut p = at;
-    let mut k: usize = 0;
-    while k < octets.len() {
-        p = put_octet(out, octets[k], p);
-        k += 1;
+impl Pen<'_> {
+    // One character.
+    pub(crate) fn character(&mut self, c: u8)
+        ensures { Writes (c ∷ []) self.old self.new }
+    {
+        if self.at < self.out.len() {
+            self.out[self.at] = c;
+        }
+        self.at = self.at.saturating_add(1);
     }
-    p
+
+    pub(crate) fn word(&mut self, word: &[u8])
+        ensures { Writes word.now self.old self.new }
+    {
+        for c in word {
+            self.character(*c);
+        }
+    }
+
+    // A number in decimal.
+    pub(crate) fn decimal(&mut self, n: u64)
+        ensures { Writes (decimal n) self.old self.new }
+    {
+        if 9 < n {
+            self.decimal(n / 10);
+        }
+        self.character(b'0' + (n % 10) as u8);
+    }
+
+    // An octet in hex.
+    pub(crate) fn octet(&mut self, o: u8)
+        ensures { Writes (digit_for (o / 16) ∷ (digit_for (o % 16) ∷ [])) self.old self.new }
+    {
+        self.character(digit(o / 16));
+        self.character(digit(o % 16));
+    }
+
+    // Octets in hex.
+    pub(crate) fn hex(&mut self, octets: &[u8])
+        ensures { Writes (hex_text octets.now) self.old self.new }
+    {
+        for o in octets {
+            self.octet(*o);
+        }
+    }
 }
