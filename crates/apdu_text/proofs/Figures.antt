@@ -58,11 +58,11 @@ digits_append (suc k) n l =
 last_digit : (n : ℕ) → 48 + n % 10 ≡ digit_for (n % 10)
 last_digit n = digit_low (n % 10) (omega arith)
 
-pub decimal_one : (n : ℕ) → n ≤ 9 → 48 + n % 10 ∷ [] ≡ decimal n
+pub decimal_one : (n : ℕ) → n ≤ 9 → (48 + n % 10) ∷ [] ≡ decimal n
 unfolding decimal decimal_before digits_before
 decimal_one n h = rw (width_one n h) (ap (λ (d : ℕ). d ∷ []) (last_digit n))
 
-pub decimal_more : (n : ℕ) → 9 < n → decimal (n / 10) ++ (48 + n % 10 ∷ []) ≡ decimal n
+pub decimal_more : (n : ℕ) → 9 < n → decimal (n / 10) ++ ((48 + n % 10) ∷ []) ≡ decimal n
 unfolding decimal decimal_before digits_before
 decimal_more n h =
     rw (width_more n h)

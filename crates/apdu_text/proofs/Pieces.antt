@@ -2,38 +2,39 @@
 -- Assumes nothing.
 use Prim.Native.Nat.{ℕ, zero, suc, ◌+◌, ◌-◌, ◌*◌, ◌/◌, ◌%◌, ◌≤◌, ◌<◌}
 use mathlib.Core.Path.{◌≡◌, refl, ap, sym, ◌∙◌}
-use mathlib.Core.Bool.{Bool, true, false, ◌&&◌, not}
+use mathlib.Core.Bool.{Bool, true, false, ◌&&◌}
 use mathlib.Core.List.{List, [], ◌∷◌, ◌++◌, append_assoc}
 use native.Mathlib.Omega.{arith}
 use lib.Dec.{leb}
+use mir.Val.{bool_byte}
+use Rattle.apdu.specs.Values.{bit_of}
 use lib.ListN.{length, get_or}
-use borrow.Author.Tests.{eq-eqb, ne_eqb, leb-true, not-true, not-false}
+use borrow.Author.Tests.{eq-eqb, ne_eqb, leb-true}
 use Rattle.refusals.proofs.Tests.{by_test, by_cases, and_true, and_left, and_right}
 use Rattle.bits.specs.Bits.{field}
 use Rattle.bits.specs.Strings.{is_inside, string_at}
 use Rattle.bench_lines.specs.Numerals.{digit_for}
 use Rattle.bench_lines.specs.Line.{hex_text}
-use Rattle.apdu.specs.Sound.{nested}
 use Rattle.apdu_text.specs.Words.{octets_of, eid_of, ids_of, attributes_of}
 use Rattle.apdu_text.specs.Parts.{decimal, shown, part_at, between, numbers, number_list, list_front, container_front, seam, going_on}
-use Rattle.apdu_text.specs.Ink.{Inks, stack_of}
-use Rattle.apdu_text.proofs.Inking.{Leaves, leaves_more, leaves_none, leaves_as, none_inks, inks_then}
+use Rattle.apdu_text.specs.Ink.{Writes, stack_of}
+use Rattle.apdu_text.specs.declared.pen.Pen.{Pen}
+use Rattle.apdu_text.proofs.Inking.{Leaves, leaves_more, leaves_none, leaves_as, leaves_end, none_writes, writes_then}
 
 -- ---- how many octets of a part are shown
 
-module _ (octets start n : ℕ) {a : Bool} (is : a ≡ is_inside octets start n) where
-  pub shown_outside : not a ≡ true → 0 ≡ shown octets start n
+module _ (octets start n : ℕ) where
+  pub shown_outside : is_inside octets start n ≡ false → 0 ≡ shown octets start n
   unfolding shown
-  shown_outside t = rw (and_left (is_inside 65536 start n) (sym is ∙ not-true a t))
+  shown_outside t = rw (and_left (is_inside 65536 start n) t)
 
-  module _ {b : Bool} (near : b ≡ is_inside 65536 start n) where
-    pub shown_far : not b ≡ true → 0 ≡ shown octets start n
-    unfolding shown
-    shown_far t = rw (and_right (is_inside octets start n) (sym near ∙ not-true b t))
+  pub shown_far : is_inside 65536 start n ≡ false → 0 ≡ shown octets start n
+  unfolding shown
+  shown_far t = rw (and_right (is_inside octets start n) t)
 
-    pub shown_inside : not a ≡ false → not b ≡ false → n ≡ shown octets start n
-    unfolding shown
-    shown_inside t u = rw (and_true (sym is ∙ not-false a t) (sym near ∙ not-false b u))
+  pub shown_inside : is_inside octets start n ≡ true → is_inside 65536 start n ≡ true → n ≡ shown octets start n
+  unfolding shown
+  shown_inside t u = rw (and_true t u)
 
 pub reach : (octets start n : ℕ) {most k : ℕ} → most ≡ shown octets start n → k < most → start + 8 * k < 524288
 unfolding shown is_inside
@@ -69,86 +70,84 @@ module _ (s : List ℕ) (start : ℕ) where
   unfolding string_at
   part_none most k h = let a : most - k ≡ 0 = omega arith in rw a
 
-  module _ {text : List ℕ} {at : ℕ} {out : List ℕ} (most k : ℕ) {m : ℕ} {p : List ℕ} where
-    pub part_more : Leaves text at out (hex_text (left most k)) m p → k < most → {o r : ℕ} {q : List ℕ} → o ≡ field s (start + 8 * k) 8
-        → Inks (digit_for (o / 16) ∷ (digit_for (o % 16) ∷ [])) m r p q → Leaves text at out (hex_text (left most (k + 1))) r q
+  module _ {text : List ℕ} {o : Pen} (most k : ℕ) {p : Pen} where
+    pub part_more : Leaves text o (hex_text (left most k)) p → k < most → {x : ℕ} {q : Pen} → x ≡ field s (start + 8 * k) 8
+        → Writes (digit_for (x / 16) ∷ (digit_for (x % 16) ∷ [])) p q → Leaves text o (hex_text (left most (k + 1))) q
     unfolding hex_text
-    part_more l h {o} e x = leaves_more {a = digit_for (o / 16) ∷ (digit_for (o % 16) ∷ [])} (leaves_as (ap hex_text (part_next most k h) ∙ rw (← e) refl) l) x
+    part_more l h {x} e w = leaves_more {a = digit_for (x / 16) ∷ (digit_for (x % 16) ∷ [])} (leaves_as (ap hex_text (part_next most k h) ∙ rw (← e) refl) l) w
 
-    pub part_end : Leaves text at out (hex_text (left most k)) m p → most ≤ k → Inks text at m out p
+    pub part_end : Leaves text o (hex_text (left most k)) p → most ≤ k → Writes text o p
     unfolding hex_text
     part_end l h = leaves_none (leaves_as (ap hex_text (part_none most k h)) l)
 
-    module _ (end : List ℕ) (l : Leaves text at out (numbers (left most k) ++ end) m p) where
-      number_front : k < most → {o : ℕ} → o ≡ field s (start + 8 * k) 8 → numbers (left most k) ++ end ≡ decimal o ++ (between (left most (k + 1)) ++ (numbers (left most (k + 1)) ++ end))
+    module _ (end : List ℕ) (l : Leaves text o (numbers (left most k) ++ end) p) where
+      number_front : k < most → {x : ℕ} → x ≡ field s (start + 8 * k) 8 → numbers (left most k) ++ end ≡ decimal x ++ (between (left most (k + 1)) ++ (numbers (left most (k + 1)) ++ end))
       unfolding numbers
-      number_front h {o} e =
+      number_front h {x} e =
           rw (part_next most k h, ← e)
-          (append_assoc (decimal o) (between (left most (k + 1)) ++ numbers (left most (k + 1))) end
-          ∙ ap (λ (t : List ℕ). decimal o ++ t) (append_assoc (between (left most (k + 1))) (numbers (left most (k + 1))) end))
+          (append_assoc (decimal x) (between (left most (k + 1)) ++ numbers (left most (k + 1))) end
+          ∙ ap (λ (t : List ℕ). decimal x ++ t) (append_assoc (between (left most (k + 1))) (numbers (left most (k + 1))) end))
 
-      pub number_more : k + 1 < most → {o x r : ℕ} {q w : List ℕ} → o ≡ field s (start + 8 * k) 8 → Inks (decimal o) m x p q → Inks (44 ∷ []) x r q w
-          → Leaves text at out (numbers (left most (k + 1)) ++ end) r w
+      pub number_more : k + 1 < most → {x : ℕ} {q w : Pen} → x ≡ field s (start + 8 * k) 8 → Writes (decimal x) p q → Writes (44 ∷ []) q w
+          → Leaves text o (numbers (left most (k + 1)) ++ end) w
       unfolding between
       number_more h e i j =
           let some : between (left most (k + 1)) ≡ 44 ∷ [] = ap (λ (t : List ℕ). between t) (part_next most (k + 1) h) in
           leaves_more {a = 44 ∷ []} (leaves_as (rw some) (leaves_more (leaves_as (number_front (omega arith) e) l) i)) j
 
-      pub number_last : k < most → most ≤ k + 1 → {o x : ℕ} {q : List ℕ} → o ≡ field s (start + 8 * k) 8 → Inks (decimal o) m x p q
-          → Leaves text at out (numbers (left most (k + 1)) ++ end) x q
+      pub number_last : k < most → most ≤ k + 1 → {x : ℕ} {q : Pen} → x ≡ field s (start + 8 * k) 8 → Writes (decimal x) p q
+          → Leaves text o (numbers (left most (k + 1)) ++ end) q
       unfolding between
       number_last h g e i =
           let none : between (left most (k + 1)) ≡ [] = ap (λ (t : List ℕ). between t) (part_none most (k + 1) g) in
           leaves_as (rw none) (leaves_more (leaves_as (number_front h e) l) i)
 
-      pub numbers_end : most ≤ k → {r : ℕ} {q : List ℕ} → Inks end m r p q → Inks text at r out q
+      pub numbers_end : most ≤ k → {q : Pen} → Writes end p q → Writes text o q
       unfolding numbers
-      numbers_end h i = leaves_none (leaves_more {rest = []} (leaves_as (rw (part_none most k h) (sym (mathlib.Core.List.append-nil end))) l) i)
+      numbers_end h i = leaves_end (leaves_as (rw (part_none most k h)) l) i
 
-pub list_inks : (l : List ℕ) {at m r : ℕ} {x y z : List ℕ} → Inks (91 ∷ []) at m x y → Inks (numbers l ++ (93 ∷ [])) m r y z → Inks (number_list l) at r x z
+pub list_writes : (l : List ℕ) {o p q : Pen} → Writes (91 ∷ []) o p → Writes (numbers l ++ (93 ∷ [])) p q → Writes (number_list l) o q
 unfolding number_list
-list_inks l p q = inks_then p q
+list_writes l p q = writes_then p q
 
 -- ---- containers
 
-pub number_as : (name : List ℕ) {n k : ℕ} {at r : ℕ} {o q : List ℕ} → n ≡ k → Inks (name ++ decimal n) at r o q → Inks (name ++ decimal k) at r o q
+pub number_as : (name : List ℕ) {n k : ℕ} {o q : Pen} → n ≡ k → Writes (name ++ decimal n) o q → Writes (name ++ decimal k) o q
 number_as name e x = rw e at x
 
-module _ (n : ℕ) {at r : ℕ} {o q : List ℕ} where
-  pub list_empty : n ≡ 0 → Inks (91 ∷ (93 ∷ [])) at r o q → Inks (list_front n) at r o q
-  unfolding list_front
-  list_empty e x = rw (eq-eqb n 0 e) x
+pub bit_as : (b : Bool) → bool_byte b ≡ bit_of b
+bit_as true = refl
+bit_as false = refl
 
-  pub list_filled : (n ≡ 0 → ⊥) → Inks (91 ∷ []) at r o q → Inks (list_front n) at r o q
+module _ (n : ℕ) {o p : Pen} where
+  pub list_empty : n ≡ 0 → Writes (91 ∷ []) o p → {q : Pen} → Writes (93 ∷ []) p q → Writes (list_front n) o q
+  unfolding list_front
+  list_empty e x y = rw (eq-eqb n 0 e) (writes_then x y)
+
+  pub list_filled : (n ≡ 0 → ⊥) → Writes (91 ∷ []) o p → Writes (list_front n) o p
   unfolding list_front
   list_filled e x = rw (ne_eqb n 0 e) x
 
-module _ (s : List ℕ) (kind n start : ℕ) {at r : ℕ} {o q : List ℕ} where
-  pub front_octets : kind ≡ 2 → Inks (octets_of ++ hex_text (part_at s start n)) at r o q → Inks (container_front s kind n start) at r o q
+module _ (s : List ℕ) (kind n start : ℕ) {o q : Pen} where
+  pub front_octets : kind ≡ 2 → Writes (octets_of ++ hex_text (part_at s start n)) o q → Writes (container_front s kind n start) o q
   unfolding container_front
   front_octets e x = rw (eq-eqb kind 2 e) x
 
-  pub front_eid : (kind ≡ 2 → ⊥) → kind ≡ 7 → Inks (eid_of ++ decimal n) at r o q → Inks (container_front s kind n start) at r o q
+  pub front_eid : kind ≡ 7 → Writes (eid_of ++ decimal n) o q → Writes (container_front s kind n start) o q
   unfolding container_front
-  front_eid a e x = rw (ne_eqb kind 2 a, eq-eqb kind 7 e) x
+  front_eid e x = rw e x
 
-  pub front_ids : (kind ≡ 2 → ⊥) → (kind ≡ 7 → ⊥) → kind ≡ 8 → Inks (ids_of ++ number_list (part_at s start n)) at r o q → Inks (container_front s kind n start) at r o q
+  pub front_ids : kind ≡ 8 → Writes (ids_of ++ number_list (part_at s start n)) o q → Writes (container_front s kind n start) o q
   unfolding container_front
-  front_ids a b e x = rw (ne_eqb kind 2 a, ne_eqb kind 7 b, eq-eqb kind 8 e) x
+  front_ids e x = rw e x
 
-  pub front_list : (kind ≡ 2 → ⊥) → (kind ≡ 7 → ⊥) → (kind ≡ 8 → ⊥) → kind ≡ 9 → Inks (attributes_of ++ list_front n) at r o q → Inks (container_front s kind n start) at r o q
+  pub front_list : kind ≡ 9 → Writes (attributes_of ++ list_front n) o q → Writes (container_front s kind n start) o q
   unfolding container_front
-  front_list a b d e x = rw (ne_eqb kind 2 a, ne_eqb kind 7 b, ne_eqb kind 8 d, eq-eqb kind 9 e) x
+  front_list e x = rw e x
 
-pub front_none : (s : List ℕ) (kind n start at : ℕ) (o : List ℕ) → (kind ≡ 2 → ⊥) → (kind ≡ 7 → ⊥) → (kind ≡ 8 → ⊥) → (kind ≡ 9 → ⊥) → Inks (container_front s kind n start) at at o o
+pub front_none : (s : List ℕ) (kind n start : ℕ) (o : Pen) → (kind ≡ 2 → ⊥) → (kind ≡ 7 → ⊥) → (kind ≡ 8 → ⊥) → (kind ≡ 9 → ⊥) → Writes (container_front s kind n start) o o
 unfolding container_front
-front_none s kind n start at o a b d e = rw (ne_eqb kind 2 a, ne_eqb kind 7 b, ne_eqb kind 8 d, ne_eqb kind 9 e) (none_inks at o)
-
-pub list_announced : (kind n : ℕ) → kind ≡ 9 → n ≡ nested kind n
-list_announced kind n e = rw (eq-eqb kind 9 e)
-
-pub none_announced : (kind n : ℕ) → (kind ≡ 9 → ⊥) → 0 ≡ nested kind n
-none_announced kind n e = rw (ne_eqb kind 9 e)
+front_none s kind n start o a b d e = rw (ne_eqb kind 2 a, ne_eqb kind 7 b, ne_eqb kind 8 d, ne_eqb kind 9 e) (none_writes o)
 
 -- ---- the open lists
 
@@ -177,14 +176,14 @@ unfolding going_on
 going_goes zero due e = absurd (e refl)
 going_goes (suc x) due e = refl
 
-module _ {text : List ℕ} {at : ℕ} {out : List ℕ} (due : List ℕ) (k : ℕ) {m : ℕ} {p : List ℕ} (l : Leaves text at out (seam (stack_of due k)) m p) where
-  pub seam_more : 0 < k → get_or due (k - 1) 0 ≡ 0 → {r : ℕ} {q : List ℕ} → Inks (93 ∷ []) m r p q → Leaves text at out (seam (stack_of due (k - 1))) r q
+module _ {text : List ℕ} {o : Pen} (due : List ℕ) (k : ℕ) {p : Pen} (l : Leaves text o (seam (stack_of due k)) p) where
+  pub seam_more : 0 < k → get_or due (k - 1) 0 ≡ 0 → {q : Pen} → Writes (93 ∷ []) p q → Leaves text o (seam (stack_of due (k - 1))) q
   seam_more h e x = leaves_more {a = 93 ∷ []} (leaves_as (ap seam (stack_front due k h) ∙ seam_ends (get_or due (k - 1) 0) (stack_of due (k - 1)) e) l) x
 
-  pub seam_comma : 0 < k → (get_or due (k - 1) 0 ≡ 0 → ⊥) → {r : ℕ} {q : List ℕ} → Inks (44 ∷ []) m r p q → Inks text at r out q
+  pub seam_comma : 0 < k → (get_or due (k - 1) 0 ≡ 0 → ⊥) → {q : Pen} → Writes (44 ∷ []) p q → Writes text o q
   seam_comma h e x = leaves_none (leaves_more {a = 44 ∷ []} (leaves_as (ap seam (stack_front due k h) ∙ seam_goes (get_or due (k - 1) 0) (stack_of due (k - 1)) e) l) x)
 
-  pub seam_none : k ≡ 0 → Inks text at m out p
+  pub seam_none : k ≡ 0 → Writes text o p
   unfolding seam stack_of
   seam_none e = leaves_none (rw e at l)
 

@@ -13,6 +13,13 @@ use crate::pen::Pen;
 use apdu::{Entry, Message, Row};
 use refusals::Refusal;
 
+#[derive(Clone, Copy)]
+struct Totals {
+    messages: u64,
+    refused: u64,
+    same: u64,
+}
+
 // Appends what `write` writes, which is measured first.
 fn append<F: Fn(&mut Pen)>(out: &mut [u8], at: usize, write: F) -> Result<usize, Refusal>
     ghost text: { List ℕ }
@@ -94,7 +101,12 @@ pub fn append_totals(
 ) -> Result<usize, Refusal>
     ensures { (answer_of result ≡ append_text out.old at (totals_text messages refused same)) × (out.new ≡ output_after (answer_of result) out.old at (totals_text messages refused same)) }
 {
-    append(out, at, |pen| pen.totals(messages, refused, same))
+    let totals = Totals {
+        messages,
+        refused,
+        same,
+    };
+    append(out, at, |pen| pen.totals(totals))
 }
 
 impl Pen<'_> {
@@ -106,12 +118,12 @@ impl Pen<'_> {
         self.number_if(refusal != 0, b" at ", position as u64);
     }
 
-    fn totals(&mut self, messages: u64, refused: u64, same: u64)
-        ensures { Writes (totals_text messages refused same) self.old self.new }
+    fn totals(&mut self, t: Totals)
+        ensures { Writes (totals_text t.messages t.refused t.same) self.old self.new }
     {
-        self.number(b"messages ", messages);
-        self.number(b" refused ", refused);
-        self.number(b" same ", same);
+        self.number(b"messages ", t.messages);
+        self.number(b" refused ", t.refused);
+        self.number(b" same ", t.same);
         self.character(b'\n');
     }
 }

@@ -42,11 +42,12 @@ impl Pen<'_> {
         self.character(b'[');
         let mut rest = rows;
         for (i, e) in entries.iter().enumerate() {
-            if 0 < i {
+            let own = entry_rows(*e);
+            self.entry(s, *e, front(rest, own));
+            rest = behind(rest, own);
+            if i + 1 < entries.len() {
                 self.character(b',');
             }
-            self.entry(s, *e, front(rest, entry_rows(*e)));
-            rest = behind(rest, entry_rows(*e));
         }
         self.character(b']');
         rest

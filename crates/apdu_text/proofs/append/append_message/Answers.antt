@@ -1,0 +1,9 @@
+use Rattle.std.proofs.Common.{rules}
+use Prim.Native.Nat.{◌≤◌}
+use mathlib.Core.Path.{◌≡◌}
+use lib.ListN.{length}
+use Rattle.apdu.proofs.Tables.{long}
+use Rattle.apdu_text.proofs.append.append_message.Goals as goal
+
+pub append-requires : goal.append-requires
+append-requires c κs within = let n : length c.args.rows ≡ 32 = search (rules, long) in search rules

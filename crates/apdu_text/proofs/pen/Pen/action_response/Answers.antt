@@ -1,0 +1,9 @@
+-- Its fields, one behind the other.
+-- Assumes nothing.
+use Rattle.apdu_text.specs.MessageText.{action_response_text}
+use Rattle.apdu_text.proofs.Inking.{writes_then}
+use Rattle.apdu_text.proofs.pen.Pen.action_response.Goals as goal
+
+pub returns : goal.returns
+unfolding action_response_text
+returns c = writes_then c.number.ensures (writes_then c.number-2.ensures (writes_then c.number_if.ensures (writes_then (rw c.front-own.ensures at c.container_if.ensures) c.number_if-2.ensures)))

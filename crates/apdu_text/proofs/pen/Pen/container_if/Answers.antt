@@ -1,0 +1,13 @@
+-- It is there or not.
+-- Assumes nothing.
+use Rattle.apdu_text.specs.Parts.{container_text}
+use Rattle.apdu_text.proofs.Inking.{writes_then, when_there, when_absent}
+use Rattle.apdu_text.proofs.Flat.{rows_announced}
+use Rattle.apdu_text.proofs.pen.Pen.container_if.Goals as goal
+
+pub returns-then-is : goal.returns-then-is
+unfolding container_text
+returns-then-is c = when_there _ c.if-is.true (writes_then c.word.ensures (writes_then c.container_front.ensures (rows_announced _ _ c.announces.ensures c.rows.ensures)))
+
+pub returns-else-is : goal.returns-else-is
+returns-else-is c = when_absent _ _ c.if-is.false
