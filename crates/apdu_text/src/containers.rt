@@ -39,12 +39,7 @@ impl Pen<'_> {
     {
         self.decimal(u64::from(row.id));
         self.character(b'=');
-        self.container_front(
-            s,
-            u64::from(row.kind),
-            u64::from(row.n),
-            row.start as usize,
-        );
+        self.container_front(s, u64::from(row.kind), u64::from(row.n), row.start as usize);
     }
 
     // `]` for each of the innermost lists that ends, and `,` if another goes on; `due` holds how many rows are to come in each open list.

@@ -24,7 +24,15 @@ impl Pen<'_> {
             m.credentials_length,
         );
         let own = front(rows, m.rows);
-        self.container_if(m.has_parameter, b" parameter=", s, m.kind, m.n, m.start, own);
+        self.container_if(
+            m.has_parameter,
+            b" parameter=",
+            s,
+            m.kind,
+            m.n,
+            m.start,
+            own,
+        );
         self.number_if(m.has_iid, b" iid=", m.iid);
     }
 
@@ -36,7 +44,15 @@ impl Pen<'_> {
         self.number(b" eid=", m.eid);
         self.number_if(m.has_iid, b" iid=", m.iid);
         let own = front(rows, m.rows);
-        self.container_if(m.has_parameter, b" parameter=", s, m.kind, m.n, m.start, own);
+        self.container_if(
+            m.has_parameter,
+            b" parameter=",
+            s,
+            m.kind,
+            m.n,
+            m.start,
+            own,
+        );
         self.number_if(m.has_ret, b" ret=", m.ret);
     }
 

@@ -10,6 +10,6 @@ returns-then-inside-2 c = shown_inside _ _ _ (sym c.if-inside.ensures) (sym c.if
 
 pub returns-else-inside : goal.returns-else-inside
 returns-else-inside c = elim c.else-inside.branch [
-  else-inside-via-then-inside+else-inside-2 w ↦ shown_far _ _ _ (sym w.if-inside-2.ensures)
+  | else-inside-via-then-inside+else-inside-2 w ↦ shown_far _ _ _ (sym w.if-inside-2.ensures)
   | else-inside-via-else-inside w ↦ shown_outside _ _ _ (sym w.if-inside.ensures)
 ]

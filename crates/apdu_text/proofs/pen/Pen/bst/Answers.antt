@@ -23,7 +23,7 @@ returns c =
     let t = rw c.front-mandatory.ensures at c.entries-rest.ensures in
     let others : Writes (when a.m.has_others (optional_is ++ entry_list a.s.now (take a.m.others (drop a.m.mandatory a.entries.now)) (drop (rows_of (take a.m.mandatory a.entries.now)) a.rows.now))) c.entries-rest.new.self c.if-m.self =
     elim c.if-m.branch [
-      then-m w ↦ writes_at w.self-is (when_there _ w.if-m.true (entries_as optional_is a.s.now (w.front-others.ensures ∙ ap (take a.m.others) w.behind.ensures) t.1 w.entries.ensures.0))
+      | then-m w ↦ writes_at w.self-is (when_there _ w.if-m.true (entries_as optional_is a.s.now (w.front-others.ensures ∙ ap (take a.m.others) w.behind.ensures) t.1 w.entries.ensures.0))
       | else-m w ↦ writes_at w.self-is (when_absent _ _ w.if-m.false)
     ] in
     writes_then c.number.ensures (writes_then c.number-2.ensures (writes_then c.number-3.ensures (writes_then c.number-4.ensures (writes_then t.0 (writes_then others c.list.ensures)))))

@@ -23,7 +23,7 @@ loop-i-preserved c =
     let e = rw c.front.ensures at c.entry.ensures in (
       rest_more a.entries.now l.i a.rows.now k c.loop-i-test.true l.invariant.0 c.behind-rest.ensures,
       elim c.if-i-entries.branch [
-        then-i-entries w ↦
+        | then-i-entries w ↦
             leaves_at w.self-is (entries_more a.entries.now l.i a.s.now l.rest.now (93 ∷ []) k c.behind-rest.ensures l.invariant.1 e w.if-i-entries.true w.character-then-i-entries.ensures)
         | else-i-entries w ↦ leaves_at w.self-is (entries_last a.entries.now l.i a.s.now l.rest.now (93 ∷ []) k c.behind-rest.ensures l.invariant.1 e c.loop-i-test.true w.if-i-entries.false)
       ],

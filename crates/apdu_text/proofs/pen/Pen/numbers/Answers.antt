@@ -14,7 +14,7 @@ octet-requires c = reach _ _ _ c.shown-most.ensures c.loop-k-test.true
 
 pub loop-k-preserved : goal.loop-k-preserved
 loop-k-preserved c = elim c.if-k-most.branch [
-  then-k-most w ↦ leaves_at w.self-is (number_more _ _ _ _ _ c.loop-k.invariant w.if-k-most.true (c.from.ensures ∙ c.octet.ensures) c.decimal.ensures w.character-then-k-most.ensures)
+  | then-k-most w ↦ leaves_at w.self-is (number_more _ _ _ _ _ c.loop-k.invariant w.if-k-most.true (c.from.ensures ∙ c.octet.ensures) c.decimal.ensures w.character-then-k-most.ensures)
   | else-k-most w ↦ leaves_at w.self-is (number_last _ _ _ _ _ c.loop-k.invariant c.loop-k-test.true w.if-k-most.false (c.from.ensures ∙ c.octet.ensures) c.decimal.ensures)
 ]
 

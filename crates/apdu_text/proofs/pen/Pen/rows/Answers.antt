@@ -29,19 +29,19 @@ loop-row-preserved c =
     let none : l.depth - 0 ≡ l.depth = omega arith in
     let more = rw (c.from.ensures, c.from-in-loop-row.ensures) at c.announces-more.ensures in
     elim c.if-more-eq0.branch [
-      then-more-eq0 w ↦
+      | then-more-eq0 w ↦
           let some = w.going_on-depth.ensures in (
             omega (arith, w.depth-is, some.1, open_length due l.depth refl fits),
             ap length w.due-is ∙ long,
             rows_as _ _ w.due-is w.depth-is w.self-is
-            (rows_closing _ c.args.rows.now l.row-index l.due l.depth x c.loop-row-test.true (omega arith) (omega arith) c.saturating_sub.ensures l.invariant.2 c.row_front.ensures more w.if-more-eq0.true
-            (writes_as (ap seam (open_front due l.depth refl fits)) w.seam.ensures) _ (open_some due l.depth refl fits some.1 some.0)),
+                (rows_closing _ c.args.rows.now l.row-index l.due l.depth x c.loop-row-test.true (omega arith) (omega arith) c.saturating_sub.ensures l.invariant.2 c.row_front.ensures more w.if-more-eq0.true
+                (writes_as (ap seam (open_front due l.depth refl fits)) w.seam.ensures) _ (open_some due l.depth refl fits some.1 some.0)),
           )
       | else-more-eq0 w ↦ (
         omega (arith, w.depth-is),
         ap length w.due-is ∙ length-set due l.depth c.announces-more.result ∙ long,
         rows_as _ _ w.due-is w.depth-is w.self-is
-        (rows_opening _ c.args.rows.now l.row-index l.due l.depth x c.loop-row-test.true (omega arith) (omega arith) c.saturating_sub.ensures l.invariant.2 c.row_front.ensures more w.if-more-eq0.false (omega arith)),
+            (rows_opening _ c.args.rows.now l.row-index l.due l.depth x c.loop-row-test.true (omega arith) (omega arith) c.saturating_sub.ensures l.invariant.2 c.row_front.ensures more w.if-more-eq0.false (omega arith)),
       )
     ]
 
