@@ -5,7 +5,6 @@ ghost use Rattle.words.specs.TableWords.{slot_put, slot_in, slots_in, table_in, 
 ghost use Rattle.words.specs.TableWords.{UnpackingTable, UnpackingPutTable, UnpackingChange, OtherTableLength, FirstTable};
 
 use crate::word::{put, word};
-use std::array;
 use slots::{Slot, Table};
 
 pub const TABLE_WORDS: usize = 41;
@@ -40,10 +39,19 @@ pub fn table_in(words: &[u32]) -> Table
             ..slots::empty()
         };
     }
-    Table {
-        busy: word(words, 0),
-        slots: array::from_fn(|i| slot_in(words, 1 + SLOT_WORDS * i)),
-    }
+    let busy = word(words, 0);
+    // Slot by slot: over `array::from_fn` the proof of its items does not close.
+    let slots = [
+        slot_in(words, 1),
+        slot_in(words, 6),
+        slot_in(words, 11),
+        slot_in(words, 16),
+        slot_in(words, 21),
+        slot_in(words, 26),
+        slot_in(words, 31),
+        slot_in(words, 36),
+    ];
+    Table { busy, slots }
 }
 
 // Puts a slot's words from place `at` on, where they fit.

@@ -1,8 +1,6 @@
-use Rattle.std.proofs.Common.{◌≡◌, ◌*◌, ◌+◌, ◌-◌, ◌^◌, ap, map, rules}
-use Rattle.std.specs.List.{range_with_len}
-use Rattle.std.proofs.lemmas.List.FromFn.{fill_by_all}
+use Rattle.std.proofs.Common.{◌-◌, ◌^◌, [], ◌∷◌, ap}
 use Rattle.slots.specs.declared.Table.{Table}
-use Rattle.words.specs.TableWords.{slot_in, slots_in}
+use Rattle.words.specs.TableWords.{slots_in}
 use Rattle.words.proofs.TableLaws.{held_in, none_in, unpacking_table, other_table_length, first_table}
 use Rattle.words.proofs.table_words.table_in.Goals as goal
 
@@ -20,9 +18,18 @@ returns-then-words-ne-TABLE_WORDS c = record {
 pub returns : goal.returns
 unfolding slots_in
 returns c =
-    let words = c.args.words.now in
-    let each : c.from_fn.result ≡ map (λ i. slot_in words (1 + 5 * i)) (range_with_len 0 8) =
-    fill_by_all (λ i. slot_in words (1 + 5 * i)) c.from_fn.result 8 (slot_in words 0) c.from_fn.ensures.items.long
-    (λ k h. let y = c.from_fn.ensures.items.at k (slot_in words 0) h in search (rules, y.2)) in
-    let held = held_in _ words c.if-words-ne-TABLE_WORDS.false (λ i. record { busy = c.word.ensures i; slots = each i }) in
+    let held = held_in _ c.args.words.now c.if-words-ne-TABLE_WORDS.false
+    (λ i. record {
+      busy = c.word-busy.ensures i;
+      slots =
+          c.slot_in.ensures i
+          ∷ c.slot_in-2.ensures i
+          ∷ c.slot_in-3.ensures i
+          ∷ c.slot_in-4.ensures i
+          ∷ c.slot_in-5.ensures i
+          ∷ c.slot_in-6.ensures i
+          ∷ c.slot_in-7.ensures i
+          ∷ c.slot_in-8.ensures i
+          ∷ [];
+    }) in
     record { answer = held; unpacking = unpacking_table; other_length = other_table_length; first_state = first_table }
