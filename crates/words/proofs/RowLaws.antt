@@ -16,7 +16,6 @@ use Rattle.directory.specs.Directory.{no_row, row_sound, each_sound, all_apart, 
 use Rattle.directory.specs.Gathered.{no_directory, with_row, gathered_from, gathered, list_of}
 use Rattle.directory.proofs.Looking.{with_more, gathered_few}
 use Rattle.words.specs.Items.{words_of, items_from}
-use Rattle.words.specs.Word.{narrow_to}
 use Rattle.words.specs.RowWords.{area_word, part_words, with_part, row_words, id_in, row_at, rows_in, UnpackingRows, OtherRowsLength, LargeId, OtherArea, PartPut}
 use Rattle.words.proofs.ItemLaws.{length_items, length_words, items_back, one_unsound}
 use Rattle.words.proofs.Words.{narrow_small, narrow_above, word_inside}

@@ -3,8 +3,8 @@ ghost use Rattle.std.specs.Prelude.{◌≡◌, ◌≤◌};
 ghost use Rattle.words.specs.ElementWords.{element_at, element_count, elements_in, UnpackingElements, OtherElementsLength, LargeElement};
 
 use crate::word::{narrow, word};
-use std::array;
 use initialisation::{Element, Elements};
+use std::array;
 
 const ELEMENT_WORDS: usize = 4;
 

@@ -1,7 +1,6 @@
-use Rattle.std.proofs.Common.{◌≡◌, ◌*◌, ℕ, List, map, rules}
+use Rattle.std.proofs.Common.{◌≡◌, ◌*◌, map, rules}
 use Rattle.std.specs.List.{range_with_len}
 use Rattle.std.proofs.lemmas.List.FromFn.{fill_by_all}
-use Rattle.initialisation.specs.declared.records.Element.{Element}
 use Rattle.words.specs.Items.{items_from}
 use Rattle.words.specs.ElementWords.{element_at, elements_in}
 use Rattle.words.proofs.ElementLaws.{unpacking_elements, other_elements_length, large_element}

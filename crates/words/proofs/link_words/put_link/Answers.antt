@@ -12,7 +12,7 @@ returns c =
     let link = c.args.link in
     let parts : (c.match-link.phase.0 ≡ phase_number link.phase) × (c.match-link.phase.1 ≡ phase_beacon link.phase) × (c.match-link.phase.2 ≡ phase_lid link.phase) =
     elim c.match-link.branch [
-      in-Sleeping w ↦ rw (w.phase-is, w.in-Sleeping.is) (refl, refl, refl)
+      | in-Sleeping w ↦ rw (w.phase-is, w.in-Sleeping.is) (refl, refl, refl)
       | in-Looking w ↦ rw (w.phase-is, w.in-Looking.is) (refl, refl, refl)
       | in-Ready w ↦ rw (w.phase-is, w.in-Ready.is) (refl, refl, refl)
     ] in
