@@ -1,7 +1,7 @@
 -- Each turn starts behind the line feed of the one before.
 -- Assumes nothing.
 use Rattle.std.proofs.Common.{length, ◌-◌, ◌≤◌}
-use Rattle.decode.proofs.lines.after_input.Given as goal
+use Rattle.decode.proofs.run.Run.take.Given as goal
 
 abbrev pub invariant-loop-at : goal.invariant-loop-at
 invariant-loop-at g l = l.at ≤ length l.input

@@ -1,7 +1,7 @@
 -- A line's end lies behind its start and inside the input. Assumes nothing.
 use Rattle.std.proofs.Common.{arith}
 use Rattle.bench_lines.proofs.Marks.{end_behind, end_inside}
-use Rattle.decode.proofs.lines.after_input.Goals as goal
+use Rattle.decode.proofs.run.Run.take.Goals as goal
 
 pub slice_bounds-keep_part-count : goal.slice_bounds-keep_part-count
 slice_bounds-keep_part-count g c = end_behind _ _ c.line_end-end.ensures
