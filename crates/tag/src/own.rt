@@ -1,135 +1,119 @@
-// What the tag has of its own, and what a set-up line makes of it.
-use crate::Tag;
-use crate::numbers::narrow;
+// The tag between two lines, and what a set-up line makes of it.
+use crate::LINE_OCTETS;
 use crate::set_up::SetUp;
+use crate::words::front;
+use directory::Directory;
 use initialisation::{Configuration, Element, Elements, Link, Phase};
 
 const MOST_ELEMENTS: usize = 8;
-// The room for a mark: more octets than a line can carry.
-const MARK_ROOM: usize = 1024;
 
-// The tag before the first line: asleep, and everything empty or 0.
-pub(crate) fn empty_tag() -> Tag {
-    Tag {
-        link: Link {
-            time: 0,
-            tick: 0,
-            phase: Phase::Sleeping,
-        },
-        elements: Elements {
-            list: [Element {
-                eid: 0,
-                aid: 0,
-                mark: 0,
-                mark_length: 0,
-            }; 8],
-            count: 0,
-        },
-        configuration: Configuration {
-            class: 0,
-            maker: 0,
-            status: 0,
-        },
-        eid: 0,
-        directory: directory::empty(),
-        credentials: 0,
-        factory: 0,
-        writable: 0,
+// Octets of the tag: the first `used` are in use.
+#[derive(Drop)]
+pub struct Area {
+    pub octets: [u8; LINE_OCTETS],
+    pub used: usize,
+}
+
+impl Area {
+    fn new() -> Area {
+        Area {
+            octets: [0; LINE_OCTETS],
+            used: 0,
+        }
+    }
+
+    fn keep(&mut self, octets: &[u8]) {
+        keep(octets, &mut self.octets);
+        self.used = octets.len();
+    }
+
+    pub(crate) fn in_use(&self) -> &[u8] {
+        front(&self.octets, self.used)
     }
 }
 
-// Copies the first `n` octets to `area` from place `at` on, and answers `n`.
-fn keep(octets: &[u8], n: usize, area: &mut [u8], at: usize) -> usize {
-    let done = bits::copy_string(octets, 0, n, area, at);
-    n
-}
-
-// One element more; where there are 8 already, the count is 9 and the list stays.
-fn with_element(elements: Elements, element: Element) -> Elements {
-    let mut next = elements;
-    let at = next.count;
-    if at < MOST_ELEMENTS {
-        next.list[at] = element;
-        next.count = at + 1;
-        next
-    } else {
-        next.count = MOST_ELEMENTS + 1;
-        next
+// Copies the octets to the front of `area`, which has room for what a line can carry.
+fn keep(octets: &[u8], area: &mut [u8]) {
+    if let Some(part) = area.get_mut(..octets.len()) {
+        part.copy_from_slice(octets);
     }
 }
 
-// One element more, with its mark in a room of its own.
-fn add_element(
-    elements: Elements,
-    eid: u8,
-    aid: u8,
-    mark: usize,
-    octets: &[u8],
-    marks: &mut [u8],
-) -> Elements {
-    let place = elements.count;
-    if place < MOST_ELEMENTS {
-        let at = place * MARK_ROOM;
-        let n = keep(octets, mark, marks, at);
-        return with_element(
-            elements,
-            Element {
+#[derive(Drop)]
+pub struct Tag {
+    pub link: Link,
+    pub elements: Elements,
+    pub configuration: Configuration,
+    pub eid: u32,
+    pub directory: Directory,
+    pub credentials: Area,
+    pub factory: Area,
+    pub writable: Area,
+    // Each element's mark in a room of its own.
+    pub marks: [u8; MOST_ELEMENTS * LINE_OCTETS],
+}
+
+impl Tag {
+    // The tag before the first line: asleep, and everything empty or 0.
+    pub(crate) fn new() -> Tag {
+        Tag {
+            link: Link {
+                time: 0,
+                tick: 0,
+                phase: Phase::Sleeping,
+            },
+            elements: Elements {
+                list: [Element {
+                    eid: 0,
+                    aid: 0,
+                    mark: 0,
+                    mark_length: 0,
+                }; MOST_ELEMENTS],
+                count: 0,
+            },
+            configuration: Configuration {
+                class: 0,
+                maker: 0,
+                status: 0,
+            },
+            eid: 0,
+            directory: directory::empty(),
+            credentials: Area::new(),
+            factory: Area::new(),
+            writable: Area::new(),
+            marks: [0; MOST_ELEMENTS * LINE_OCTETS],
+        }
+    }
+
+    // One element more, with its mark. Where there are 8 already, the count is 9 and the list stays.
+    fn add_element(&mut self, eid: u8, aid: u8, mark: &[u8]) {
+        let place = self.elements.count;
+        if place < MOST_ELEMENTS {
+            let at = place * LINE_OCTETS;
+            let marks = &mut self.marks[..];
+            keep(mark, &mut marks[at..]);
+            self.elements.list[place] = Element {
                 eid,
                 aid,
                 mark: at as u32,
-                mark_length: narrow(n as u64),
-            },
-        );
+                mark_length: u8::try_from(mark.len()).unwrap_or(u8::MAX),
+            };
+            self.elements.count = place + 1;
+        } else {
+            self.elements.count = MOST_ELEMENTS + 1;
+        }
     }
-    with_element(
-        elements,
-        Element {
-            eid,
-            aid,
-            mark: 0,
-            mark_length: 0,
-        },
-    )
-}
 
-// The tag after a set-up line, whose octets stand at the front of `octets`.
-pub(crate) fn set_up(
-    tag: Tag,
-    line: SetUp,
-    octets: &[u8],
-    credentials: &mut [u8],
-    factory: &mut [u8],
-    writable: &mut [u8],
-    marks: &mut [u8],
-) -> Tag {
-    let mut now = tag;
-    match line {
-        SetUp::Configuration(configuration) => {
-            now.configuration = configuration;
+    // Takes a set-up line, whose octets stand at the front of `octets`.
+    pub(crate) fn set_up(&mut self, line: SetUp, octets: &[u8]) {
+        match line {
+            SetUp::Configuration(configuration) => self.configuration = configuration,
+            SetUp::Element { eid, aid, mark } => self.add_element(eid, aid, front(octets, mark)),
+            SetUp::Eid(eid) => self.eid = eid,
+            SetUp::Credentials(n) => self.credentials.keep(front(octets, n)),
+            SetUp::Factory(n) => self.factory.keep(front(octets, n)),
+            SetUp::Writable(n) => self.writable.keep(front(octets, n)),
+            SetUp::Row(row) => self.directory = directory::with_row(self.directory, row),
         }
-        SetUp::Element { eid, aid, mark } => {
-            let elements = now.elements;
-            let more = add_element(elements, eid, aid, mark, octets, marks);
-            now.elements = more;
-        }
-        SetUp::Eid(eid) => {
-            now.eid = eid;
-        }
-        SetUp::Credentials(n) => {
-            now.credentials = keep(octets, n, credentials, 0);
-        }
-        SetUp::Factory(n) => {
-            now.factory = keep(octets, n, factory, 0);
-        }
-        SetUp::Writable(n) => {
-            now.writable = keep(octets, n, writable, 0);
-        }
-        SetUp::Row(row) => {
-            let directory = now.directory;
-            let more = directory::with_row(directory, row);
-            now.directory = more;
-        }
-        SetUp::NoSetUp => {}
     }
-    now
 }

@@ -1,141 +1,133 @@
 // Answer lines, gathered in a text buffer.
-use crate::pen::{put, put_decimal, put_lid, put_octets, put_word};
+use crate::BUFFER_OCTETS;
+use crate::calls::Answer;
+use crate::own::Tag;
 use crate::words::front;
-use crate::{Answer, Tag};
 use initialisation::{Link, Phase};
+use std::fmt::{self, Write};
 use std::io;
 
 // Behind this place there may be too little room for a line.
 const LAST_PLACE: usize = 60000;
 
-// Writes the first `place` octets of `text` to standard output.
-pub(crate) fn flush(rt: &impl Print, text: &[u8], place: usize) -> io::Result<()> {
-    rt.write_all(front(text, place))
-}
-
 pub(crate) fn print_heading(rt: &impl Print) -> io::Result<()> {
     rt.write_all(b"line answer\n")
 }
 
-fn put_phase(text: &mut [u8], phase: Phase, at: usize) -> usize {
-    match phase {
-        Phase::Sleeping => put_word(text, b"sleeping", at),
-        Phase::Looking => put_word(text, b"looking", at),
-        Phase::Ready { beacon, lid } => {
-            let b = put_word(text, b"ready:", at);
-            let c = put_decimal(text, beacon.manufacturer, b);
-            let d = put(text, b':', c);
-            let e = put_decimal(text, beacon.individual, d);
-            let f = put(text, b':', e);
-            put_lid(text, lid, f)
-        }
-    }
-}
-
-fn put_link(text: &mut [u8], link: Link, at: usize) -> usize {
-    let phase = link.phase;
-    let b = put_word(text, b" phase=", at);
-    let c = put_phase(text, phase, b);
-    let d = put_word(text, b" time=", c);
-    let e = put_decimal(text, link.time as u64, d);
-    let f = put_word(text, b" tick=", e);
-    put_decimal(text, link.tick as u64, f)
-}
-
-fn put_refusal(text: &mut [u8], number: u8, at: usize) -> usize {
-    let b = put_word(text, b" refused-", at);
-    put_decimal(text, number as u64, b)
-}
-
-// An answer behind its line number.
-fn put_answer<'a>(
-    text: &mut [u8],
-    answer: Answer,
-    tag: Tag,
-    factory: &'a [u8],
-    writable: &'a [u8],
-    output: &[u8],
-    at: usize,
-) -> usize {
-    let link = tag.link;
-    let directory = tag.directory;
-    match answer {
-        Answer::Nothing => at,
-        Answer::Silent => {
-            let b = put_word(text, b" silent", at);
-            put_link(text, link, b)
-        }
-        Answer::Vst(n) => {
-            let b = put_word(text, b" vst ", at);
-            let c = put_octets(text, front(output, n), b);
-            put_link(text, link, c)
-        }
-        Answer::Done => {
-            let b = put_word(text, b" done", at);
-            put_link(text, link, b)
-        }
-        Answer::Reply(n) => {
-            let b = put_word(text, b" reply ", at);
-            put_octets(text, front(output, n), b)
-        }
-        Answer::NoReply => put_word(text, b" no-reply", at),
-        Answer::Known(id) => {
-            let b = put_word(text, b" known ", at);
-            let rows = directory.rows;
-            put_octets(
-                text,
-                directory::lookup_among(rows, directory.count, factory, writable, id),
-                b,
-            )
-        }
-        Answer::Unknown => put_word(text, b" unknown", at),
-        Answer::Writable => {
-            let b = put_word(text, b" writable ", at);
-            put_octets(text, writable, b)
-        }
-        Answer::Refused(number) => put_refusal(text, number, at),
-        Answer::RefusedAt(number, position) => {
-            let b = put_refusal(text, number, at);
-            let c = put_word(text, b" at ", b);
-            put_decimal(text, position as u64, c)
-        }
-    }
-}
-
-// Puts the line of an answer behind the text at `place`, which is written first if there may be too little room; nothing for a set-up line.
-pub(crate) fn print_line<'a>(
-    rt: &impl Print,
-    number: u64,
-    answer: Answer,
-    tag: Tag,
-    factory: &'a [u8],
-    writable: &'a [u8],
-    output: &[u8],
-    text: &mut [u8],
+// Text that is not yet written: the octets of `text` in front of `place`.
+#[derive(Drop)]
+pub struct Printer {
+    text: [u8; BUFFER_OCTETS],
     place: usize,
-) -> io::Result<usize> {
-    if let Answer::Nothing = answer {
-        return Ok(place);
-    }
-    let at = room(rt, text, place)?;
-    let b = put_decimal(text, number, at);
-    let c = put_answer(
-        text,
-        answer,
-        tag,
-        front(factory, tag.factory),
-        front(writable, tag.writable),
-        output,
-        b,
-    );
-    Ok(put(text, b'\n', c))
 }
 
-// The place where the next line starts.
-fn room(rt: &impl Print, text: &[u8], place: usize) -> io::Result<usize> {
-    if place < LAST_PLACE {
-        return Ok(place);
+impl Write for Printer {
+    // What has no room is left out: the text is written before there is too little.
+    fn write_str(&mut self, s: &str) -> fmt::Result {
+        self.place = bench_lines::keep_part(s.as_bytes(), &mut self.text, self.place);
+        Ok(())
     }
-    flush(rt, text, place)?;
-    Ok(0)
+}
+
+impl Printer {
+    pub(crate) fn new() -> Printer {
+        Printer {
+            text: [0; BUFFER_OCTETS],
+            place: 0,
+        }
+    }
+
+    // Writes the text to standard output.
+    pub(crate) fn flush(&mut self, rt: &impl Print) -> io::Result<()> {
+        rt.write_all(front(&self.text, self.place))?;
+        self.place = 0;
+        Ok(())
+    }
+
+    fn put_octets(&mut self, octets: &[u8]) -> fmt::Result {
+        for octet in octets {
+            write!(self, "{octet:02X}")?;
+        }
+        Ok(())
+    }
+
+    fn put_link(&mut self, link: Link) -> fmt::Result {
+        match link.phase {
+            Phase::Sleeping => write!(self, " phase=sleeping")?,
+            Phase::Looking => write!(self, " phase=looking")?,
+            Phase::Ready { beacon, lid } => write!(
+                self,
+                " phase=ready:{}:{}:{lid:07X}",
+                beacon.manufacturer, beacon.individual
+            )?,
+        }
+        write!(self, " time={} tick={}", link.time, link.tick)
+    }
+
+    // An answer behind its line number.
+    fn put_answer(&mut self, answer: Answer, tag: &Tag, output: &[u8]) -> fmt::Result {
+        match answer {
+            Answer::Silent => {
+                write!(self, " silent")?;
+                self.put_link(tag.link)
+            }
+            Answer::Vst(n) => {
+                write!(self, " vst ")?;
+                self.put_octets(front(output, n))?;
+                self.put_link(tag.link)
+            }
+            Answer::Done => {
+                write!(self, " done")?;
+                self.put_link(tag.link)
+            }
+            Answer::Reply(n) => {
+                write!(self, " reply ")?;
+                self.put_octets(front(output, n))
+            }
+            Answer::NoReply => write!(self, " no-reply"),
+            Answer::Known(id) => {
+                write!(self, " known ")?;
+                let directory = tag.directory;
+                self.put_octets(directory::lookup_among(
+                    directory.rows,
+                    directory.count,
+                    tag.factory.in_use(),
+                    tag.writable.in_use(),
+                    id,
+                ))
+            }
+            Answer::Unknown => write!(self, " unknown"),
+            Answer::Writable => {
+                write!(self, " writable ")?;
+                self.put_octets(tag.writable.in_use())
+            }
+            Answer::Refused(number) => write!(self, " refused-{number}"),
+            Answer::RefusedAt(number, position) => {
+                write!(self, " refused-{number} at {position}")
+            }
+        }
+    }
+
+    fn put_line(&mut self, number: u64, answer: Answer, tag: &Tag, output: &[u8]) -> fmt::Result {
+        write!(self, "{number}")?;
+        self.put_answer(answer, tag, output)?;
+        writeln!(self)
+    }
+
+    // Puts the line of an answer behind the text, which is written first if there may be too little room.
+    pub(crate) fn print_line(
+        &mut self,
+        rt: &impl Print,
+        number: u64,
+        answer: Answer,
+        tag: &Tag,
+        output: &[u8],
+    ) -> io::Result<()> {
+        if LAST_PLACE <= self.place {
+            self.flush(rt)?;
+        }
+        // The printer refuses no text.
+        let _ = self.put_line(number, answer, tag, output);
+        Ok(())
+    }
 }

@@ -4,9 +4,6 @@ use Rattle.apdu_reading.proofs.Pieces.{by_stopped, by_cut, by_begins, by_goes_on
 use native.Mathlib.Omega.{arith}
 use Rattle.apdu_reading.proofs.cursor.piece.Goals as goal
 
-pub overflow_mul-end : goal.overflow_mul-end
-overflow_mul-end c = omega arith
-
 pub returns-then-c-ne0 : goal.returns-then-c-ne0
 returns-then-c-ne0 c = by_stopped _ _ _ _ c.if-c-ne0.true c.faulty.ensures
 
@@ -16,14 +13,8 @@ returns-then-end-at c = by_cut _ _ _ _ c.if-c-ne0.false c.faulty-then-end-at.ens
 pub returns-then-end-at-2 : goal.returns-then-end-at-2
 returns-then-end-at-2 c = by_cut _ _ _ _ c.if-c-ne0.false c.faulty-then-end-at-2.ensures (omega arith)
 
-pub moved-requires : goal.moved-requires
-moved-requires c = omega arith
-
 pub returns-then-begins : goal.returns-then-begins
 returns-then-begins c = by_begins _ _ _ _ c.if-c-ne0.false c.if-begins.true c.read_field-value.ensures c.moved.ensures (omega arith)
-
-pub moved-requires-2 : goal.moved-requires-2
-moved-requires-2 c = omega arith
 
 pub returns : goal.returns
 returns c = by_goes_on _ _ _ _ c.if-c-ne0.false c.if-begins.false c.read_field-value.ensures c.moved-2.ensures (omega arith)
