@@ -2,7 +2,8 @@
 -- Assumes nothing.
 use Rattle.std.specs.Prelude.{ℕ, ◌*◌, ◌≡◌, Bool, true, false, List, [], ◌∷◌, map, length, take, replicate}
 use Rattle.refusals.specs.Check.{Answer, refused, accepted}
-use Rattle.header.specs.Header.{Fields, read_header, header_octets}
+use Rattle.header.specs.declared.HeaderRead.{HeaderRead}
+use Rattle.header.specs.Header.{read_header, header_octets}
 use Rattle.apdu_format.specs.Reading.{Value, fields as numbers, string, Outcome, refused as refused_at, message as read, read_message}
 use Rattle.apdu_format.specs.Writing.{encoded_octets}
 use Rattle.apdu.specs.declared.lists.Row.{Row}
@@ -31,7 +32,7 @@ pub data Result : Type 0 where
   values : (components : List Value) (end : ℕ) (written : List ℕ) → Result
   reply : (octets-read record_read : Outcome) (octets writable : List ℕ) → Result
 
-unfoldable pub header_result : Answer Fields → Result
+unfoldable pub header_result : Answer HeaderRead → Result
 header_result (refused k) = refusal k
 header_result (accepted f) = fields f.header.last f.header.number f.header.counter f.size (header_octets f.header)
 

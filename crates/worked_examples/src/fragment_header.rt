@@ -1,6 +1,6 @@
 // 01, "Fragment header": `read OCTETS: ANSWER`, and `write LAST NUMBER COUNTER into ROOM: ANSWER`.
 use crate::print::{decimal, octets, refused, text};
-use header::{Header, HeaderRead, HeaderWritten};
+use header::{Header, HeaderRead};
 use std::io;
 
 fn mark(rt: &impl Print, last: bool) -> io::Result<()> {
@@ -17,17 +17,17 @@ fn read(rt: &impl Print, s: &[u8]) -> io::Result<()> {
     octets(rt, s)?;
     text(rt, b": ")?;
     match header::read(s) {
-        HeaderRead::Fields { header, size } => {
+        Ok(HeaderRead { header, size }) => {
             mark(rt, header.last)?;
-            decimal(rt, header.number as u64)?;
+            decimal(rt, u64::from(header.number))?;
             text(rt, b" ")?;
-            decimal(rt, header.counter as u64)?;
+            decimal(rt, u64::from(header.counter))?;
             text(rt, b" ")?;
             decimal(rt, size as u64)?;
             text(rt, b"\n")?;
         }
-        HeaderRead::Refused(number) => {
-            refused(rt, number)?;
+        Err(refusal) => {
+            refused(rt, u8::from(refusal))?;
             text(rt, b"\n")?;
         }
     }
@@ -38,9 +38,9 @@ fn read(rt: &impl Print, s: &[u8]) -> io::Result<()> {
 fn write(rt: &impl Print, last: bool, number: u8, counter: u32, out: &mut [u8]) -> io::Result<()> {
     text(rt, b"write ")?;
     mark(rt, last)?;
-    decimal(rt, number as u64)?;
+    decimal(rt, u64::from(number))?;
     text(rt, b" ")?;
-    decimal(rt, counter as u64)?;
+    decimal(rt, u64::from(counter))?;
     text(rt, b" into ")?;
     decimal(rt, out.len() as u64)?;
     text(rt, b": ")?;
@@ -52,13 +52,13 @@ fn write(rt: &impl Print, last: bool, number: u8, counter: u32, out: &mut [u8]) 
         },
         out,
     ) {
-        HeaderWritten::Octets(n) => {
+        Ok(n) => {
             decimal(rt, n as u64)?;
             octets(rt, out)?;
             text(rt, b"\n")?;
         }
-        HeaderWritten::Refused(number) => {
-            refused(rt, number)?;
+        Err(refusal) => {
+            refused(rt, u8::from(refusal))?;
             text(rt, b"\n")?;
         }
     }

@@ -1,47 +1,46 @@
 // 01, "Messages": `message OCTETS: KIND to END, again OCTETS`, END being the bit place behind the message and the octets what writing the record gives;
 // or `refused-N at POSITION`.
-use crate::print::{decimal, first_octets, octets, refused, text};
+use crate::print::{decimal, octets, refused, text};
 use apdu::{Entry, Message};
 use apdu_reading::Answer;
-use apdu_writing::ApduWritten;
+use apdu_writing::WriteRefusal;
 use std::io;
 
 fn kind(rt: &impl Print, m: Message) -> io::Result<()> {
-    match m {
-        Message::ActionRequest(_) => text(rt, b"action-request")?,
-        Message::ActionResponse(_) => text(rt, b"action-response")?,
-        Message::EventRequest(_) => text(rt, b"event-request")?,
-        Message::EventResponse(_) => text(rt, b"event-response")?,
-        Message::SetRequest(_) => text(rt, b"set-request")?,
-        Message::SetResponse(_) => text(rt, b"set-response")?,
-        Message::GetRequest(_) => text(rt, b"get-request")?,
-        Message::GetResponse(_) => text(rt, b"get-response")?,
-        Message::Bst(_) => text(rt, b"bst")?,
-        Message::Vst(_) => text(rt, b"vst")?,
-    }
-    Ok(())
+    let name: &[u8] = match m {
+        Message::ActionRequest(_) => b"action-request",
+        Message::ActionResponse(_) => b"action-response",
+        Message::EventRequest(_) => b"event-request",
+        Message::EventResponse(_) => b"event-response",
+        Message::SetRequest(_) => b"set-request",
+        Message::SetResponse(_) => b"set-response",
+        Message::GetRequest(_) => b"get-request",
+        Message::GetResponse(_) => b"get-response",
+        Message::Bst(_) => b"bst",
+        Message::Vst(_) => b"vst",
+    };
+    text(rt, name)
 }
 
 fn entry(rt: &impl Print, e: Entry) -> io::Result<()> {
     text(rt, b", first application ")?;
-    decimal(rt, e.aid as u64)?;
+    decimal(rt, u64::from(e.aid))?;
     text(rt, b" of element ")?;
-    decimal(rt, e.eid as u64)?;
+    decimal(rt, u64::from(e.eid))?;
     text(rt, b", mark of ")?;
-    decimal(rt, e.n as u64)?;
+    decimal(rt, u64::from(e.n))?;
     text(rt, b" octets at ")?;
-    decimal(rt, e.start as u64)?;
+    decimal(rt, u64::from(e.start))?;
     Ok(())
 }
 
 // What the record is written as, from its front on.
-fn again(rt: &impl Print, w: ApduWritten, out: &[u8]) -> io::Result<()> {
+fn again(rt: &impl Print, written: Result<usize, WriteRefusal>, out: &[u8]) -> io::Result<()> {
     text(rt, b", again")?;
-    match w {
-        ApduWritten::Octets(n) => first_octets(rt, out, n)?,
-        _ => text(rt, b" refused")?,
+    match written {
+        Ok(n) => octets(rt, out.get(..n).unwrap_or(out)),
+        Err(_) => text(rt, b" refused"),
     }
-    Ok(())
 }
 
 fn read(rt: &impl Print, s: &[u8]) -> io::Result<()> {

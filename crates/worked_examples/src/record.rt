@@ -1,7 +1,8 @@
 // 01, "Messages": writing. `write LABEL into N: OCTETS` gives all N octets of the output afterwards, which were FF; or `refused-N`, with 21 `at 512`.
 use crate::print::{decimal, octets, refused, text};
 use apdu::{Entry, Lists, Message, Request, Row, SetRequest, Vst};
-use apdu_writing::ApduWritten;
+use apdu_writing::WriteRefusal;
+use refusals::Refusal;
 use std::io;
 
 fn write(
@@ -17,25 +18,22 @@ fn write(
     text(rt, b" into ")?;
     decimal(rt, out.len() as u64)?;
     text(rt, b":")?;
-    let rows = lists.rows;
-    let entries = lists.entries;
-    let answer = apdu_writing::write(m, rows, entries, lent, out);
-    match answer {
-        ApduWritten::RecordOutOfRange => {
+    match apdu_writing::write(m, lists.rows, lists.entries, lent, out) {
+        Ok(_) => octets(rt, out)?,
+        Err(WriteRefusal::RecordOutOfRange) => {
             text(rt, b" ")?;
-            refused(rt, refusals::RECORD_OUT_OF_RANGE)?;
+            refused(rt, u8::from(Refusal::RecordOutOfRange))?;
         }
-        ApduWritten::MessageTooLong(position) => {
+        Err(WriteRefusal::MessageTooLong(position)) => {
             text(rt, b" ")?;
-            refused(rt, refusals::APDU_TOO_LONG)?;
+            refused(rt, u8::from(Refusal::ApduTooLong))?;
             text(rt, b" at ")?;
             decimal(rt, position as u64)?;
         }
-        ApduWritten::OutputTooSmall => {
+        Err(WriteRefusal::OutputTooSmall) => {
             text(rt, b" ")?;
-            refused(rt, refusals::OUTPUT_TOO_SMALL)?;
+            refused(rt, u8::from(Refusal::OutputTooSmall))?;
         }
-        ApduWritten::Octets(_) => octets(rt, out)?,
     }
     text(rt, b"\n")?;
     Ok(())
@@ -80,9 +78,10 @@ fn echo(kind: u64, n: u64, start: usize) -> Request {
 }
 
 fn no_lists() -> Lists {
-    let entries = apdu::no_entries();
-    let rows = apdu::no_rows();
-    Lists { entries, rows }
+    Lists {
+        entries: apdu::no_entries(),
+        rows: apdu::no_rows(),
+    }
 }
 
 // A VST of two applications: the first without a parameter, though it counts rows; the second with the only row that there is.
