@@ -52,6 +52,7 @@ pub fn read(s: &[u8]) -> Reading
         ..Due::default()
     };
     let mut used: u64 = 0;
+    // A `while`: how many rows there are is known only as they are read.
     while wants(cursor, used) {
         let t = next_row(s, cursor, due);
         cursor = t.cursor;

@@ -31,6 +31,7 @@ pub(crate) fn fill(s: &[u8], o: Due, r: Rows) -> Rows
     let mut due = o;
     let mut used = r.used;
     let mut rows = r.rows;
+    // A `while`: how many rows there are is known only as they are read.
     while wants(cursor, used) {
         let t = next_row(s, cursor, due);
         cursor = t.cursor;
