@@ -30,11 +30,13 @@ def named_in(source, token):
 
 
 class Function:
-    def __init__(self, source, at):
+    """A function of a source file; a method is known as TYPE::NAME."""
+
+    def __init__(self, source, at, owner):
         tokens = source.tokens
         self.source = source
         self.crate = source.crate
-        self.name = tokens[at + 1]
+        self.name = f'{owner}::{tokens[at + 1]}' if owner else tokens[at + 1]
         self.clauses = []
         front = at
         while front and tokens[front - 1] in MODIFIERS:
@@ -64,11 +66,28 @@ class Function:
         return {tokens[i] for i in range(at, end) if tokens[i + 1] == '(' and (tokens[i][0].isalpha() or tokens[i][0] == '_')}
 
 
+def owners_of(source):
+    """(first, last, what stands between `impl` and its block) of each impl block, by tokens."""
+    tokens, found, at = source.tokens, [], 0
+    while at < len(tokens):
+        if tokens[at] == '{':
+            at = matching(tokens, at)
+        elif tokens[at] == 'impl' and (at == 0 or tokens[at - 1] in ('}', ';', ']')):
+            block = tokens.index('{', at)
+            last = matching(tokens, block)
+            found.append((block, last, ' '.join(tokens[at + 1:block])))
+            at = last
+        at += 1
+    return found
+
+
 def functions_of(source):
     """The functions of one source file by name."""
     if not hasattr(source, 'functions'):
         starts = [i for i, token in enumerate(source.tokens[:-1]) if token == 'fn' and source.tokens[i + 1] != '(']
-        source.functions = {source.tokens[i + 1]: Function(source, i) for i in starts}
+        owners = owners_of(source)
+        functions = [Function(source, i, next((owner for first, last, owner in owners if first < i < last), None)) for i in starts]
+        source.functions = {function.name: function for function in functions}
         if len(source.functions) != len(starts):
             raise Unreadable(f'{source.name}: two functions have the same name')
     return source.functions

@@ -78,7 +78,7 @@ wrong 'contract of a call that no library calls' crates/bench_joining/src/joinin
     'clause "ensures" of bench_joining::take_line does not name it'
 wrong 'contract whose definition no row reaches' $list '/| apdu::clamped ensures |/d' \
     'clause "ensures" of clamped in apdu/src/lists.rt names apdu/specs/Tables.antt:lesser, which no row holds'
-wrong 'answer that means another number' crates/header/specs/Header.antt 's/^read_answer (read.Refused k) = refused k/read_answer (read.Refused k) = refused 5/' \
+wrong 'answer that means another number' crates/header/specs/Header.antt 's/^read_answer (Err refusal) = refused (number_of refusal)/read_answer (Err refusal) = refused 5/' \
     "(header/specs/Header.antt:read_answer, header::read answer): $otherwise"
 wrong 'definition behind a field of the same name' crates/apdu/specs/Sound.antt 's/sound_if m.has_ids/sound_if m.has_iid/' "$cases: $otherwise"
 wrong 'row twice' $list '/| reassembly::fragment demand |/p' 'the row stands twice'

@@ -85,15 +85,12 @@ impl Run {
 
     // Takes octets of the input: each line feed ends a line, and what stands behind the last one is held.
     fn take(&mut self, rt: &impl Print, input: &[u8]) -> io::Result<()> {
-        let mut at = 0;
-        while at < input.len() {
-            let end = bench_lines::line_end(input, at);
-            self.held = bench_lines::keep_part(&input[at..end], &mut self.line, self.held);
-            if end == input.len() {
-                return Ok(());
+        for part in input.split_inclusive(|c| *c == b'\n') {
+            let line = part.strip_suffix(b"\n");
+            self.held = bench_lines::keep_part(line.unwrap_or(part), &mut self.line, self.held);
+            if line.is_some() {
+                self.end_line(rt)?;
             }
-            at = end + 1;
-            self.end_line(rt)?;
         }
         Ok(())
     }

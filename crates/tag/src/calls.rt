@@ -42,6 +42,7 @@ pub enum Answer {
 // ---- the lines
 
 // The call of a line; its octets stand at the front of `octets`.
+// A chain and no `match`: each form has its own number of words.
 pub(crate) fn read_call(line: &[u8], octets: &mut [u8]) -> Option<Call> {
     if has_form(line, b"bst", 4) {
         Some(Call::Bst {
