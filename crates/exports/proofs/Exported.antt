@@ -3,13 +3,13 @@ use mathlib.Core.Path.{◌≡◌, refl, sym, ap, subst, ◌∙◌}
 use mathlib.Core.Bool.{Bool, true, false, true≢false}
 use mathlib.Core.List.{List}
 use Prim.Native.Nat.{ℕ}
-use lib.ListN.{length, set}
+use lib.ListN.{length}
 use lib.Dec.{eqb}
 use borrow.Author.Tests.{eq-eqb, eqb-true, eqb-false}
 use Rattle.std.specs.Prelude.{Result, Ok, Err, is_ok}
 use Rattle.refusals.specs.declared.Refusal.{Refusal}
 use Rattle.slots.specs.declared.Table.{Table}
-use Rattle.slots.specs.Slots.{table_of, is_sound}
+use Rattle.slots.specs.Slots.{is_sound}
 use Rattle.slots.specs.Sweep.{ExpiryGives, ReleaseGives}
 use Rattle.reassembly.specs.declared.Accepted.{Accepted}
 use Rattle.reassembly.specs.declared.Change.{Change}

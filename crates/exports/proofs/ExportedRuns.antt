@@ -6,7 +6,6 @@ use Prim.Native.Nat.{ℕ}
 use lib.ListN.{length, replicate, length-replicate}
 use Rattle.std.specs.Prelude.{Result, Ok, Err, is_ok}
 use Rattle.refusals.specs.declared.Refusal.{Refusal}
-use Rattle.refusals.specs.Refusal.{number_of}
 use Rattle.slots.specs.declared.Table.{Table}
 use Rattle.slots.specs.Sweep.{sweep_answer, expiry_of, release_of, ExpiryGives, ReleaseGives}
 use Rattle.reassembly.specs.declared.Accepted.{Accepted}

@@ -15,7 +15,7 @@ use Rattle.refusals.specs.Check.{pick}
 use Rattle.refusals.proofs.Tests.{by_cases, and_true}
 use Rattle.bits.specs.Strings.{is_inside}
 use Rattle.apdu_format.specs.Component.{octet_string}
-use Rattle.apdu_format.proofs.Tests.{both, never}
+use Rattle.apdu_format.proofs.Tests.{both}
 use Rattle.apdu.specs.declared.lists.Row.{Row}
 use Rattle.apdu.specs.declared.lists.Entry.{Entry}
 use Rattle.apdu.specs.Values.{empty_row, empty_entry, entry_rows, rows_of}

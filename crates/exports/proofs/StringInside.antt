@@ -9,12 +9,11 @@ use lib.Dec.{eqb, leb, ltb}
 use lib.ListN.{length, take, drop}
 use borrow.Author.Tests.{le-leb, lt-leb}
 use Rattle.std.specs.Prelude.{Option, Some, None}
-use Rattle.refusals.specs.Check.{pick}
 use Rattle.refusals.proofs.Tests.{by_test}
 use Rattle.bits.specs.Strings.{is_inside, string_at, copy_fits, copy_string}
 use Rattle.bits.proofs.Strings.{inside_le}
 use Rattle.apdu_format.specs.Reading.{read_message}
-use Rattle.apdu_format.proofs.Tests.{both, never}
+use Rattle.apdu_format.proofs.Tests.{both}
 use Rattle.apdu.specs.declared.lists.Row.{Row}
 use Rattle.apdu.specs.declared.lists.Entry.{Entry}
 use Rattle.apdu.specs.declared.lists.Lists.{Lists}

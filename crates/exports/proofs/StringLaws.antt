@@ -1,11 +1,9 @@
 -- Laws of a message's strings: the ways out of the functions. Assumes nothing.
 use Prim.Native.Nat.{ℕ, ◌-◌, ◌<◌, ◌≤◌}
-use mathlib.Core.Bool.{Bool, true, false, not}
-use mathlib.Core.Path.{◌≡◌, refl, ap, sym, ◌∙◌}
+use mathlib.Core.Path.{◌≡◌, refl, ap, ◌∙◌}
 use mathlib.Core.List.{List}
 use lib.ListN.{get_or}
-use borrow.Author.Tests.{eq-eqb, ne_eqb, lt-ltb, le-ltb, not-true, not-false}
-use Rattle.bits.specs.Strings.{copy_fits, copy_string}
+use borrow.Author.Tests.{eq-eqb, ne_eqb, lt-ltb, le-ltb}
 use Rattle.std.specs.Prelude.{Option, None}
 use Rattle.apdu.specs.declared.lists.Lists.{Lists}
 use Rattle.apdu.specs.declared.records.Message.{Message}
@@ -13,9 +11,8 @@ use Rattle.apdu.specs.Values.{empty_row, empty_entry}
 use Rattle.apdu_reading.specs.declared.front.Answer.TheVariants as answer
 use Rattle.apdu_reading.specs.declared.front.Reading.{Reading}
 use Rattle.apdu_reading.specs.Answers.{Reads}
-use Rattle.words.specs.Answer.{answer_number}
 use Rattle.exports.specs.declared.strings.StringPart.{StringPart}
-use Rattle.exports.specs.Messages.{refusal_number, refusal_at}
+use Rattle.exports.specs.Messages.{refusal_at}
 use Rattle.exports.specs.Strings.{credentials_in, parameter_in, row_string, entry_string, string_part, string_number, string_output, field_number, field_output, StringGives}
 
 -- ---- which part

@@ -73,7 +73,10 @@ pub extern "C" fn semuryeon_lookup(
         Err(refusal) => refused(refusal),
         Ok(_) if part.len() < PART_WORDS => refused(Refusal::OutputTooSmall),
         Ok(known) => {
-            put_part(directory::row_for(directory, factory, writable, sought), part);
+            put_part(
+                directory::row_for(directory, factory, writable, sought),
+                part,
+            );
             packed(0, u8::from(known), 0, 0)
         }
     }
