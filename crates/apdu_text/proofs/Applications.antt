@@ -1,7 +1,7 @@
 -- Laws of application entries one after the other, each with its rows.
 -- Assumes nothing.
-use Prim.Native.Nat.{ℕ, zero, suc, ◌+◌, ◌≤◌, ◌<◌}
-use mathlib.Core.Path.{◌≡◌, refl, ap, sym, ◌∙◌}
+use Prim.Native.Nat.{ℕ, ◌+◌, ◌≤◌, ◌<◌}
+use mathlib.Core.Path.{◌≡◌, ap, sym, ◌∙◌}
 use mathlib.Core.List.{List, [], ◌∷◌, ◌++◌, append_assoc}
 use native.Mathlib.Omega.{arith}
 use native.Mathlib.Numerals.{add-one}
@@ -12,7 +12,7 @@ use Rattle.apdu.specs.declared.lists.Entry.{Entry}
 use Rattle.apdu.specs.declared.records.Message.{Message}
 use Rattle.apdu.specs.Values.{entry_rows, rows_of, empty_entry}
 use Rattle.apdu.proofs.Laws.{rows_of_snoc}
-use Rattle.apdu_text.specs.Parts.{when, between, entry_text, entries_text, entry_list}
+use Rattle.apdu_text.specs.Parts.{between, entry_text, entries_text, entry_list}
 use Rattle.apdu_text.specs.MessageText.{message_text}
 use Rattle.apdu_text.specs.Ink.{Writes}
 use Rattle.apdu_text.specs.declared.pen.Pen.{Pen}

@@ -11,7 +11,7 @@ use lib.ListN.{length, take, drop, set}
 use lib.Seq.{sets, set_out, sets-eq}
 use borrow.Author.Tests.{lt-ltb, le-ltb, lt-leb, le-leb}
 use Rattle.refusals.specs.Check.{accepted, refused}
-use Rattle.refusals.proofs.Tests.{by_test, by_cases}
+use Rattle.refusals.proofs.Tests.{by_test}
 use Rattle.bench_lines.specs.Text.{written, has_room, append_text, output_after}
 use Rattle.apdu_text.specs.Parts.{when}
 use Rattle.apdu_text.specs.Ink.{farthest, next, place_after, inked, Writes}

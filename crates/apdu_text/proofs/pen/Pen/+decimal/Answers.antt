@@ -1,6 +1,5 @@
 -- The last digit stands behind the others.
 -- Assumes nothing.
-use native.Mathlib.Omega.{arith}
 use Rattle.apdu_text.proofs.Inking.{writes_as, writes_from, writes_then}
 use Rattle.apdu_text.proofs.Figures.{decimal_one, decimal_more}
 use Rattle.apdu_text.proofs.pen.Pen.+decimal.Goals as goal

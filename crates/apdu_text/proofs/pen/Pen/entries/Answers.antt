@@ -1,9 +1,7 @@
-use native.Mathlib.Omega.{arith}
-use mathlib.Core.Path.{refl, ap, ◌∙◌}
+use mathlib.Core.Path.{refl}
 use mathlib.Core.List.{[], ◌∷◌}
 use Rattle.apdu.specs.Values.{rows_of}
-use Rattle.apdu_text.specs.Parts.{entry_text}
-use Rattle.apdu_text.proofs.Inking.{leaves_all, leaves_at, writes_as}
+use Rattle.apdu_text.proofs.Inking.{leaves_all, leaves_at}
 use Rattle.apdu_text.proofs.Applications.{rest_more, rest_all, few_rows, entries_more, entries_last, entries_end, entries_write}
 use Rattle.apdu_text.proofs.pen.Pen.entries.Goals as goal
 use Rattle.apdu_text.proofs.pen.Pen.entries.Goals.{then-i-entries, else-i-entries}

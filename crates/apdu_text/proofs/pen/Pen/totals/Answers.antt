@@ -1,10 +1,5 @@
 -- Three numbers and the line's end.
 -- Assumes nothing.
-use Rattle.apdu_text.specs.Words.{messages_are, refused_are, same_are}
-use Rattle.apdu_text.specs.Parts.{decimal}
-use mathlib.Core.List.{◌++◌}
-use Rattle.apdu_text.specs.Lines.{totals_text}
-use Rattle.apdu_text.proofs.Inking.{writes_then, writes_as}
 use Rattle.apdu_text.proofs.Flat.{totals_write}
 use Rattle.apdu_text.proofs.pen.Pen.totals.Goals as goal
 
