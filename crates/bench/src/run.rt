@@ -63,8 +63,7 @@ impl Run {
     pub(crate) fn take(&mut self, rt: &impl Print, input: &[u8]) -> io::Result<()> {
         for part in input.split_inclusive(|c| *c == b'\n') {
             let line = part.strip_suffix(b"\n");
-            self.held =
-                bench_lines::keep_part(line.unwrap_or(part), &mut self.line, self.held);
+            self.held = bench_lines::keep_part(line.unwrap_or(part), &mut self.line, self.held);
             if line.is_some() {
                 self.end_line(rt)?;
             }
