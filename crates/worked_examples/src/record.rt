@@ -1,4 +1,6 @@
 // 01, "Messages": writing. `write LABEL into N: OCTETS` gives all N octets of the output afterwards, which were FF; or `refused-N`, with 21 `at 512`.
+ghost use Rattle.std.specs.Prelude.{◌^◌, ◌<◌};
+
 use crate::print::{decimal, octets, refused, text};
 use apdu::{Entry, Lists, Message, Request, Row, SetRequest, Vst};
 use apdu_writing::WriteRefusal;
@@ -189,120 +191,116 @@ fn full_lists(rows: u8) -> Lists {
     }
 }
 
-fn into_112(rt: &impl Print, label: &[u8], m: Message, lists: Lists) -> io::Result<()> {
+// Writes the message to an output of N octets, each FF before.
+fn into<const N: usize>(rt: &impl Print, label: &[u8], m: Message, lists: Lists) -> io::Result<()>
+    requires { N < 2 ^ 32 }
+{
     let lent = [0x41u8, 0x42];
-    let mut out = [0xFFu8; 112];
+    let mut out = [0xFFu8; N];
     write(rt, label, m, lists, &lent, &mut out)?;
-    Ok(())
-}
-
-fn into_twenty(rt: &impl Print, label: &[u8], m: Message, lists: Lists) -> io::Result<()> {
-    let lent = [0x41u8, 0x42];
-    let mut out = [0xFFu8; 20];
-    write(rt, label, m, lists, &lent, &mut out)?;
-    Ok(())
-}
-
-fn into_five(rt: &impl Print, label: &[u8], m: Message) -> io::Result<()> {
-    let lent = [0x41u8, 0x42];
-    let mut out = [0xFFu8; 5];
-    write(rt, label, m, no_lists(), &lent, &mut out)?;
-    Ok(())
-}
-
-fn into_eight(rt: &impl Print, label: &[u8], m: Message) -> io::Result<()> {
-    let lent = [0x41u8, 0x42];
-    let mut out = [0xFFu8; 8];
-    write(rt, label, m, no_lists(), &lent, &mut out)?;
     Ok(())
 }
 
 pub(crate) fn run(rt: &impl Print) -> io::Result<()> {
     // absent fields are passed over, whatever they hold; the rest of the output stays
-    into_five(rt, b"release", Message::EventRequest(release(0)))?;
-    into_five(
+    into::<5>(
+        rt,
+        b"release",
+        Message::EventRequest(release(0)),
+        no_lists(),
+    )?;
+    into::<5>(
         rt,
         b"release to eid 127",
         Message::EventRequest(release(127)),
+        no_lists(),
     )?;
-    into_five(
+    into::<5>(
         rt,
         b"release to eid 128",
         Message::EventRequest(release(128)),
+        no_lists(),
     )?;
-    into_five(
+    into::<5>(
         rt,
         b"echo of both octets",
         Message::ActionRequest(echo(2, 2, 0)),
+        no_lists(),
     )?;
-    into_eight(
+    into::<8>(
         rt,
         b"echo of both octets",
         Message::ActionRequest(echo(2, 2, 0)),
+        no_lists(),
     )?;
-    into_eight(
+    into::<8>(
         rt,
         b"echo from bit 4",
         Message::ActionRequest(echo(2, 1, 4)),
+        no_lists(),
     )?;
-    into_eight(
+    into::<8>(
         rt,
         b"echo of an octet too many",
         Message::ActionRequest(echo(2, 3, 0)),
+        no_lists(),
     )?;
-    into_eight(
+    into::<8>(
         rt,
         b"empty echo at the end",
         Message::ActionRequest(echo(2, 0, 16)),
+        no_lists(),
     )?;
-    into_eight(
+    into::<8>(
         rt,
         b"empty echo behind the end",
         Message::ActionRequest(echo(2, 0, 17)),
+        no_lists(),
     )?;
-    into_eight(
+    into::<8>(
         rt,
         b"parameter of kind 3",
         Message::ActionRequest(echo(3, 0, 0)),
+        no_lists(),
     )?;
-    into_twenty(
+    into::<20>(
         rt,
         b"vst with an absent parameter of 0 rows",
         Message::Vst(two_applications()),
         their_lists(0),
     )?;
-    into_twenty(
+    into::<20>(
         rt,
         b"vst with an absent parameter of 1 row",
         Message::Vst(two_applications()),
         their_lists(1),
     )?;
-    into_twenty(
+    into::<20>(
         rt,
         b"vst with an absent parameter of 255 rows",
         Message::Vst(two_applications()),
         their_lists(255),
     )?;
     // 32 rows and no more, summed over the entries
-    into_112(
+    into::<112>(
         rt,
         b"set of 32 rows",
         Message::SetRequest(set_of(32)),
         full_lists(0),
     )?;
-    into_112(
+    into::<112>(
         rt,
         b"set of 33 rows",
         Message::SetRequest(set_of(33)),
         full_lists(0),
     )?;
-    into_112(
+    into::<112>(
         rt,
         b"vst of 32 and 0 rows",
         Message::Vst(two_applications()),
         full_lists(0),
     )?;
-    into_112(
+    into::<112>(
         rt,
         b"vst of 32 and 1 rows",
         Message::Vst(two_applications()),
