@@ -11,7 +11,7 @@ use crate::front::{Reading, answer_of, cleared, ended, place_of};
 use crate::link::{LinkFront, link_end};
 use crate::optional::{container_if, integer_if};
 use crate::rows::{Rows, fill};
-use apdu::{Due, Entry, announces};
+use apdu::{Due, Entry, Lists, announces, no_entries, no_rows};
 
 // An entry up to its rows, of which `due` are announced.
 #[derive(Clone, Copy, Debug, PartialEq, Eq)]
@@ -94,7 +94,9 @@ pub(crate) fn application_lists(s: &[u8], f: LinkFront) -> Reading
 {
     let mut cursor = f.cursor;
     let mut used: u64 = 0;
-    let mut lists = cleared();
+    let entries = no_entries();
+    let rows = no_rows();
+    let mut lists = Lists { entries, rows };
     let mut mandatory: u64 = 0;
     let mut others: u64 = 0;
     for round in 0..2u64 {

@@ -16,11 +16,11 @@ mod optional;
 mod rows;
 mod services;
 
-use apdu::Due;
+use apdu::{Due, Lists, no_entries, no_rows};
 use closing::closed;
 use container::next_row;
 pub use front::{Answer, Reading};
-use front::{chosen, cleared, ended, refused};
+use front::{chosen, ended, refused};
 use link::link;
 use optional::integer_if;
 use rows::wants;
@@ -43,7 +43,10 @@ pub fn read(s: &[u8]) -> Reading
     if 8 <= c.value {
         return link(s, c);
     }
-    let mut lists = cleared();
+    // Cleared here and not by a function, which would copy them once more.
+    let entries = no_entries();
+    let rows = no_rows();
+    let mut lists = Lists { entries, rows };
     let o = opening(s, c);
     let mut cursor = o.cursor;
     let mut due = Due {

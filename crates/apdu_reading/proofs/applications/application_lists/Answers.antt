@@ -1,4 +1,4 @@
-use mathlib.Core.Path.{◌≡◌, ◌∙◌, ap}
+use mathlib.Core.Path.{◌≡◌, ◌∙◌}
 use mathlib.Core.Bool.{◌||◌}
 use lib.Dec.{eqb}
 use borrow.Author.Tests.{eq-eqb, ne_eqb}
@@ -8,12 +8,11 @@ use Rattle.apdu_reading.proofs.EntryLaws.{entry_alone}
 use Rattle.apdu_reading.proofs.StoreLaws.{stored_none, stored_more, stored_all}
 use Rattle.apdu_reading.proofs.ListLaws.{list_ready, nothing_stored, both_whole, none_read, upto_ready, upto_more, upto_both}
 use Rattle.apdu_reading.proofs.FrontLaws.{message_told}
-use Rattle.apdu.specs.declared.lists.Lists.{Lists}
 use Rattle.apdu_reading.proofs.applications.application_lists.Goals as goal
 use Rattle.apdu_reading.proofs.applications.application_lists.Goals.{then-round-eq0, else-round-eq0, then-h-eq0, else-h-eq0, then-end-ne0, else-end-ne0}
 
 pub loop-round-init : goal.loop-round-init
-loop-round-init c = none_read _ _ _ (nothing_stored _ (ap (λ (l : Lists). l.rows) c.cleared-lists.ensures) (ap (λ (l : Lists). l.entries) c.cleared-lists.ensures) c.requires.1.room)
+loop-round-init c = none_read _ _ _ (nothing_stored _ c.no_rows-rows.ensures c.no_entries-entries.ensures c.requires.1.room)
 
 pub overflow_add-mandatory : goal.overflow_add-mandatory
 overflow_add-mandatory c = omega (arith, (upto_ready _ _ _ _ _ _ _ c.loop-round-test.true c.loop-round.invariant).1)
@@ -48,4 +47,4 @@ loop-i-preserved c =
 pub returns : goal.returns
 returns c =
     message_told _ c.requires.0 _ (c.link_end-e.ensures.whole (both_whole _ _ _ (upto_both _ _ _ _ _ _ _ c.loop-round-test.false c.loop-round.invariant))) c.ended-end.ensures c.answer_of.ensures c.place_of.ensures
-    (elim c.if-end-ne0.branch [ then-end-ne0 w ↦ inl (w.if-end-ne0.true, w.lists-is ∙ w.cleared-lists-then-end-ne0.ensures) | else-end-ne0 w ↦ inr (w.if-end-ne0.false, w.lists-is) ])
+    (elim c.if-end-ne0.branch [ then-end-ne0 w ↦ inl (w.if-end-ne0.true, w.lists-is ∙ w.cleared-lists.ensures) | else-end-ne0 w ↦ inr (w.if-end-ne0.false, w.lists-is) ])
