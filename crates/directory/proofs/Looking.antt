@@ -1,6 +1,6 @@
 -- Laws of looking up in rows by value, and of the rows that are gathered from a lent list.
 -- Assumes nothing.
-use mathlib.Core.Path.{◌≡◌, refl, ap, sym, ◌∙◌}
+use mathlib.Core.Path.{◌≡◌, refl, ap, sym, ◌∙◌, subst}
 use mathlib.Core.Bool.{Bool, true, false, ◌&&◌}
 use Prim.Native.Nat.{ℕ, zero, suc, min, ◌+◌, ◌-◌, ◌≤◌, ◌<◌}
 use mathlib.Core.List.{List, [], ◌∷◌, ◌++◌, append_assoc, append-nil}
@@ -9,7 +9,7 @@ use native.Mathlib.Numerals.{add-one}
 use native.Mathlib.Omega.{arith}
 use lib.Dec.{ltb, leb}
 use lib.ListN.{length, length-set, get_or, take, drop as drop_l, set, replicate, drop_of_length-le, get_or-eq_default}
-use lib.Seq.{take-nil, take-suc-set, take-append_seam}
+use lib.Seq.{take-nil, take-suc-set, take-append_seam, paste, paste-suc}
 use borrow.Author.Tests.{lt-ltb, le-ltb, ltb-true, ltb-false, le-leb, lt-leb, leb-true, leb-false}
 use denote.Ref.{Bor}
 use Rattle.std.proofs.Common.{◌⊎◌, inl, inr, MatchOption, Option, Some, None}
@@ -225,6 +225,18 @@ gathered_front rs =
     let n : min (length rs) 32 ≡ 32 = omega arith in
     let d : drop_l (length rs) (replicate 32 no_row) ≡ [] = drop_of_length-le (replicate 32 no_row) {i = length rs} (omega arith) in
     rw (gathered_is rs, n, d) refl)
+
+-- one row more is stored
+pub stored_more : (list rs : List Row) {l : List Row} (i : ℕ) → l ≡ paste list 0 rs i → i < length list → i < length rs → set l i (get_or rs i no_row) ≡ paste list 0 rs (i + 1)
+stored_more list rs {l} i e h k =
+    let z : 0 + i ≡ i = omega arith in
+    rw (add-one, e) (subst (λ (j : ℕ). set (paste list 0 rs i) j (get_or rs i no_row) ≡ paste list 0 rs (suc i)) z (paste-suc list 0 rs i no_row (omega arith) k))
+
+-- and all that are kept
+pub gathered_stored : (rs : List Row) {list : List Row} (i : ℕ) → list ≡ paste (replicate 32 no_row) 0 rs i → i ≡ min (length rs) 32 → so_far list (min (length rs) 33) ≡ gathered rs
+gathered_stored rs i e f =
+    let z : 0 + min (length rs) 32 ≡ min (length rs) 32 = omega arith in
+    rw (e, f, z) (gathered_front rs)
 
 -- at most 32 rows are gathered as they are
 pub gathered_few : (rs : List Row) → length rs ≤ 32 → list_of (gathered rs) ≡ rs

@@ -202,7 +202,9 @@ pub fn gather(rows: &[Row]) -> Directory
 {
     let kept = rows.len().min(MOST_ROWS);
     let mut list = [NO_ROW; 32];
-    list[..kept].copy_from_slice(&rows[..kept]);
+    for i in 0..kept {
+        list[i] = rows[i];
+    }
     Directory {
         rows: list,
         count: rows.len().min(MOST_ROWS + 1),
