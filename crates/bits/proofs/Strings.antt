@@ -202,6 +202,10 @@ module _ (s : List ℕ) (start : ℕ) where
     unfolding first_bits_clear
     clear_outside h = simp h
 
+    pub clear_other : (k : ℕ) {x : ℕ} → k < n → x ≡ field s (start + 8 * k) 8 → 127 < x → false ≡ first_bits_clear s start n
+    unfolding first_bits_clear
+    clear_other k h e g = sym (and_right (is_inside (length s) start n) (clear_not n k h (omega arith)))
+
     pub clear_decided : is_inside (length s) start n ≡ true → {r : Bool}
         → MatchBool r (AllWithin (λ k. octet_at s start k < 128) (range_with_len 0 n) 0 (length (range_with_len 0 n)))
         ((k : ℕ) × (k < length (range_with_len 0 n)) × HoldsAt (λ k. 128 ≤ octet_at s start k) (range_with_len 0 n) k)
