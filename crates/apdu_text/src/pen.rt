@@ -30,22 +30,32 @@ impl Pen<'_> {
         self.at = self.at.saturating_add(1);
     }
 
+    // As many of the characters as have room are set at once.
     pub(crate) fn word(&mut self, word: &[u8])
         ensures { Writes word.now self.old self.new }
     {
-        for c in word {
-            self.character(*c);
+        let at = self.at;
+        if at < self.out.len() {
+            let n = word.len().min(self.out.len() - at);
+            self.out[at..at + n].copy_from_slice(&word[..n]);
         }
+        self.at = at.saturating_add(word.len());
     }
 
     // A number in decimal.
     pub(crate) fn decimal(&mut self, n: u64)
         ensures { Writes (decimal n) self.old self.new }
     {
-        if 9 < n {
-            self.decimal(n / 10);
+        let mut digits = [0u8; 20];
+        let mut rest = n;
+        for i in (0..20usize).rev() {
+            digits[i] = b'0' + (rest % 10) as u8;
+            rest /= 10;
+            if rest == 0 {
+                self.word(&digits[i..]);
+                return;
+            }
         }
-        self.character(b'0' + (n % 10) as u8);
     }
 
     // An octet in hex.
@@ -60,8 +70,13 @@ impl Pen<'_> {
     pub(crate) fn hex(&mut self, octets: &[u8])
         ensures { Writes (hex_text octets.now) self.old self.new }
     {
+        let mut pen = Pen {
+            out: &mut *self.out,
+            at: self.at,
+        };
         for o in octets {
-            self.octet(*o);
+            pen.octet(*o);
         }
+        self.at = pen.at;
     }
 }
