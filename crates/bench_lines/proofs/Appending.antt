@@ -7,7 +7,7 @@ use mathlib.Core.List.{List, [], ◌∷◌, ◌++◌, append_assoc}
 use native.Mathlib.Omega.{arith}
 use lib.Dec.{leb}
 use lib.ListN.{length, get_or, take, drop, set, length-append, length-drop}
-use lib.Seq.{length-take-le, take-length, take_at, drop_at, drop-drop, drop-cons, set_at}
+use lib.Seq.{length-take-le, take-length, take_at, drop_at, drop-drop, drop-cons, set_at, paste}
 use borrow.Author.Tests.{lt-leb, leb-true}
 use Rattle.refusals.proofs.Tests.{leb_same}
 use Rattle.refusals.specs.Check.{Answer, refused, accepted}
@@ -62,6 +62,11 @@ word_placed out at s {part} {k} p q = record {
   place = refl;
   octets = put_mid-paste at k out part s (length s) p q refl ∙ rw take-length (append_assoc (take at out) s (drop (at + length s) out));
 }
+
+-- copied octet by octet
+pub word_copied : (out : List ℕ) (at : ℕ) (s : List ℕ) {e : List ℕ} {k : ℕ} → e ≡ paste out at s k → k ≡ length s → Placed out at s e (at + length s)
+unfolding written
+word_copied out at s {e} {k} p q = record { place = refl; octets = p ∙ rw (q, take-length) (append_assoc (take at out) s (drop (at + length s) out)) }
 
 pub length_number : (n end : ℕ) → length (number_text n end) ≡ width n + 1
 unfolding number_text decimal_before
