@@ -4,9 +4,9 @@ use mathlib.Core.Bool.{Bool, true, false}
 use mathlib.Core.List.{List, ◌++◌}
 use Prim.Native.Nat.{ℕ, suc, ◌+◌, ◌*◌, ◌-◌, ◌/◌, ◌%◌, ◌<◌, ◌≤◌, ◌^◌}
 use native.Mathlib.Omega.{arith}
-use lib.ListN.{length, length-set, get_or, set, drop, replicate}
+use lib.ListN.{length, length-set, get_or, set, replicate}
 use lib.Dec.{eqb, ltb, leb}
-use lib.Seq.{get_or-append-add, get_or-append_seam}
+use lib.Seq.{sets, sets-eq, get_or-append-add, get_or-append_seam}
 use mir.Val.{bool_byte}
 use borrow.Author.Tests.{eq-eqb, ne_eqb, lt-ltb, le-ltb, le-leb, lt-leb, eqb-true, eqb-false, leb-true, leb-false}
 use Rattle.refusals.proofs.Tests.{by_test, by_cases, and_left, and_right}
@@ -27,9 +27,9 @@ module _ (row : Row) (words : List ℕ) where
   unfolding with_part
   part_none h = simp (lt-ltb _ _ h)
 
-  pub part_some : {after : List ℕ} → 3 ≤ length words → after ≡ part_words row ++ drop 3 words → after ≡ with_part row words
-  unfolding with_part
-  part_some h e = e ∙ simp (le-ltb _ _ h)
+  pub part_some : {after : List ℕ} → 3 ≤ length words → after ≡ sets words 0 (part_words row) → after ≡ with_part row words
+  unfolding with_part part_words
+  part_some h e = e ∙ sets-eq (part_words row) words 0 (omega arith) ∙ simp (le-ltb _ _ h)
 
 -- `u32::from` of a test is its word
 pub area_is : (writable : Bool) → bool_byte writable ≡ area_word writable
