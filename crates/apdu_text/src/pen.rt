@@ -46,7 +46,7 @@ impl Pen<'_> {
         self.at = at.saturating_add(word.len());
     }
 
-    // A number in decimal.
+    // A number in decimal: 20 digits are enough, set from the last on.
     pub(crate) fn decimal(&mut self, n: u64)
         ensures { Writes (decimal n) self.old self.new }
     {
@@ -74,7 +74,7 @@ impl Pen<'_> {
         self.character(digit(o % 16));
     }
 
-    // Octets in hex.
+    // Octets in hex. They are set by a local pen, whose place need not be stored at each character.
     pub(crate) fn hex(&mut self, octets: &[u8])
         ensures { Writes (hex_text octets.now) self.old self.new }
     {
