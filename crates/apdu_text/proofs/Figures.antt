@@ -44,6 +44,12 @@ module _ {text : List ℕ} {o : Pen} (s : List ℕ) (k : ℕ) {p : Pen} where
 last_digit : (n : ℕ) {x : ℕ} → x ≡ 48 + n % 10 → x ≡ digit_for (n % 10)
 last_digit n e = e ∙ digit_low (n % 10) (omega arith)
 
+pub decimal_one : (n : ℕ) → n < 10 → (48 + n) ∷ [] ≡ decimal n
+unfolding decimal decimal_before digits_before
+decimal_one n h =
+    let m : n % 10 ≡ n = omega arith in
+    rw (width_one n (omega arith)) (ap (λ (d : ℕ). d ∷ []) (last_digit n (ap (λ (d : ℕ). 48 + d) (sym m))))
+
 module _ (n rest : ℕ) (digits : List ℕ) (i : ℕ) (l : decimal n ≡ decimal_before rest (drop i digits)) (some : 0 < i) (fits : i ≤ length digits) where
   set_front : (x : ℕ) → drop (i - 1) (set digits (i - 1) x) ≡ x ∷ drop i digits
   set_front x =

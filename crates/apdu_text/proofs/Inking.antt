@@ -223,6 +223,11 @@ copied_writes text o {n = n} {k = k} {put = put} e h small m q g f =
       octets = ap (λ (p : Pen). p.out.now) e ∙ rw (take_all n (take n text) (omega arith)) at (put_mid-paste o.at k o.out.now put (take n text) n q g long) ∙ sym (inked_front o.out.now o.at text n (omega arith) small m);
     }
 
+-- all of it has room
+pub whole_writes : (text : List ℕ) (o : Pen) {p : Pen} {k r : ℕ} {put : List ℕ} → p ≡ record o { out = record o.out { now = put_mid o.at k o.out.now put } } → o.at < length o.out.now
+    → length o.out.now < farthest → length text ≤ length o.out.now - o.at → put ≡ text → length text ≡ k → r ≡ min (o.at + length text) farthest → Writes text o record { out = p.out; at = r }
+whole_writes text o e h small m q g f = copied_writes text o e h small (omega arith) (q ∙ sym (take_all (length text) text (omega arith))) g f
+
 -- ---- a measured text
 
 -- measured, and then written

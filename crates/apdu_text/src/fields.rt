@@ -36,6 +36,7 @@ impl Pen<'_> {
         ensures { Writes (hex_text (part_at s.now start n)) self.old self.new }
     {
         let most = shown(s.len(), start, n);
+        // Where no character has room, as in measuring, the place goes on at once.
         if self.out.len() <= self.at {
             self.at = self.at.saturating_add(2 * most);
             return;

@@ -36,16 +36,24 @@ impl Pen<'_> {
     {
         let at = self.at;
         if at < self.out.len() {
-            let n = word.len().min(self.out.len() - at);
-            self.out[at..at + n].copy_from_slice(&word[..n]);
+            let room = self.out.len() - at;
+            if word.len() <= room {
+                self.out[at..at + word.len()].copy_from_slice(word);
+            } else {
+                self.out[at..at + room].copy_from_slice(&word[..room]);
+            }
         }
         self.at = at.saturating_add(word.len());
     }
 
-    // A number in decimal.
+    // A number in decimal: 20 digits are enough, set from the last on.
     pub(crate) fn decimal(&mut self, n: u64)
         ensures { Writes (decimal n) self.old self.new }
     {
+        if n < 10 {
+            self.character(b'0' + n as u8);
+            return;
+        }
         let mut digits = [0u8; 20];
         let mut rest = n;
         for i in (0..20usize).rev() {
@@ -66,7 +74,7 @@ impl Pen<'_> {
         self.character(digit(o % 16));
     }
 
-    // Octets in hex.
+    // Octets in hex. They are set by a local pen, whose place need not be stored at each character.
     pub(crate) fn hex(&mut self, octets: &[u8])
         ensures { Writes (hex_text octets.now) self.old self.new }
     {

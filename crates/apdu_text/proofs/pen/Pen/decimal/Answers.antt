@@ -4,13 +4,16 @@ use mathlib.Core.Path.{refl, ◌∙◌}
 use lib.ListN.{length-set}
 use Rattle.bench_lines.proofs.Decimal.{width_more, width_positive, width_u64}
 use Rattle.apdu_text.specs.Parts.{decimal}
-use Rattle.apdu_text.proofs.Inking.{writes_from}
-use Rattle.apdu_text.proofs.Figures.{digits_more, decimal_writes}
+use Rattle.apdu_text.proofs.Inking.{writes_as, writes_from}
+use Rattle.apdu_text.proofs.Figures.{decimal_one, digits_more, decimal_writes}
 use Rattle.apdu_text.proofs.pen.Pen.decimal.Goals as goal
 
 pub loop-i-init : goal.loop-i-init
 unfolding decimal
 loop-i-init c = (refl, refl, refl, refl)
+
+pub returns-then-n-lt10 : goal.returns-then-n-lt10
+returns-then-n-lt10 c = writes_as (decimal_one _ (omega arith)) c.character.ensures
 
 pub returns-then-rest-eq0 : goal.returns-then-rest-eq0
 returns-then-rest-eq0 c =
