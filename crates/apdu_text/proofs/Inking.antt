@@ -130,7 +130,7 @@ next_most : (at : ℕ) → next at ≤ at + 1
 unfolding next
 next_most at = by_test (λ (k : ℕ). k ≤ at + 1) (ltb at farthest) (λ t. omega arith) (λ t. omega arith)
 
-next_near : (at : ℕ) → at < farthest → at + 1 ≡ next at
+pub next_near : (at : ℕ) → at < farthest → at + 1 ≡ next at
 unfolding next
 next_near at h = rw (lt-ltb at farthest h)
 
@@ -248,3 +248,7 @@ module _ (out : List ℕ) (at : ℕ) (text : List ℕ) {size : ℕ} (m : size �
         simp (le-leb (at + length text) (length out) k) (ap accepted (f ∙ i)),
         g ∙ inked_sets out at text near ∙ sets-eq text out at k ∙ append_assoc (take at out) text (drop (at + length text) out),
       )
+
+pub next_far : (at : ℕ) → farthest ≤ at → at ≡ next at
+unfolding next
+next_far at h = rw (le-ltb at farthest h)

@@ -1,19 +1,20 @@
 -- Values that are gathered: a part copied, a value, one row more; and a reply does not depend on what stands behind the values.
 -- Assumes nothing.
-use Prim.Native.Nat.{ℕ, zero, suc, ◌+◌, ◌-◌, ◌*◌, ◌≤◌, ◌<◌}
+use Prim.Native.Nat.{ℕ, ◌+◌, ◌-◌, ◌*◌, ◌≤◌, ◌<◌}
 use mathlib.Core.Path.{◌≡◌, refl, ap, sym, ◌∙◌}
 use mathlib.Core.Bool.{Bool, true, false}
 use mathlib.Core.List.{List, [], ◌∷◌, ◌++◌, append_assoc, append-nil}
 use native.Mathlib.Omega.{arith}
 use native.Mathlib.Numerals.{add-one}
-use lib.ListN.{length, get_or, take, drop, set, length-set, length-append, length-drop}
-use lib.Seq.{drop-cons, length-take-le, take-suc-set, take_at, take_all}
+use lib.ListN.{length, take, drop, set, length-set, length-append, length-drop}
+use lib.Seq.{length-take-le, take-suc-set, take_at, take_all}
 use borrow.Author.Tests.{le-leb}
 use borrow.Rule.Slice.PartMut.{post_of, put_mid, Post-is}
 use Rattle.refusals.specs.Check.{pick}
 use Rattle.bits.specs.Bits.{Octets, field, read_field}
 use Rattle.bits.specs.Strings.{is_inside, string_at, copy_fits, copy_string}
-use Rattle.bits.proofs.Laws.{field_octet, field_lt, below_drop, below_take}
+use Rattle.bits.proofs.Laws.{field_lt, below_drop, below_take}
+use Rattle.bits.proofs.Aligned.{string_octets}
 use Rattle.directory.specs.declared.Row.{Row}
 use Rattle.directory.specs.Directory.{area_octets, row_sound, sound_directory, row_of}
 use Rattle.directory.proofs.Looking.{sound_row, inside_area, row_short}
@@ -29,25 +30,16 @@ seven_is s at e = (e, rw e (field_lt s at 7))
 
 -- ---- a part of an area
 
-string_octets_law : (s : List ℕ) (i n : ℕ) → Octets s → i + n ≤ length s → string_at s (8 * i) n ≡ take n (drop i s)
-unfolding string_at
-string_octets_law s i zero o h = refl
-string_octets_law s i (suc n) o h =
-    let e : 8 * i + 8 ≡ 8 * suc i = omega arith in
-    ap (λ (x : ℕ). x ∷ string_at s (8 * i + 8) n) (field_octet s i (o.each i))
-    ∙ ap (λ (k : ℕ). get_or s i 0 ∷ string_at s k n) e
-    ∙ ap (λ (l : List ℕ). get_or s i 0 ∷ l) (string_octets_law s (suc i) n o (omega arith))
-    ∙ ap (take (suc n)) (sym (drop-cons s i 0 (omega arith)))
-
 module _ (area out : List ℕ) (start n at : ℕ) (o : Octets area) (inside : start + n ≤ length area) (room : at + n ≤ length out) where
   pub part_copied : copy_string (take (start + n - start) (drop start area)) 0 n out at ≡ take at out ++ (take n (drop start area) ++ drop (at + n) out)
   unfolding copy_string copy_fits is_inside
   part_copied =
       let k : start + n - start ≡ n = omega arith in
+      let z : 0 + n - 0 ≡ n = omega arith in
       let l = take n (drop start area) in
       let m : length l ≡ n = length-take-le n (drop start area) (omega (arith, length-drop start area)) in
       let a : n ≤ length l = omega arith in
-      let e : string_at l 0 n ≡ l = string_octets_law l 0 n (below_take n (below_drop start o)) (omega arith) ∙ take_all n l (omega arith) in
+      let e : string_at l 0 n ≡ l = sym (string_octets l 0 n (below_take n (below_drop start o)) (omega arith)) ∙ ap (λ (i : ℕ). take i l) z ∙ take_all n l (omega arith) in
       let f : 0 + 8 * n ≤ 8 * length l = omega arith in
       rw (k, le-leb (0 + 8 * n) (8 * length l) f, le-leb (at + n) (length out) room, e)
 

@@ -190,3 +190,13 @@ module _ (number : ℕ) (line words store output text : List ℕ) (r : ℕ) (wor
         number_is = number_is;
         says = subst (λ (k : ℕ). Says k 0 0 (length line') 0) (sym number_is) (says 0 0 (length line') (omega arith) (omega arith) (omega (arith, shown.0, shown.2)));
       })
+
+-- text that fits is never refused
+pub shown_never : (text text' line : List ℕ) (a : Result ℕ Refusal) → (answer_of a ≡ append_text text 0 line) × (text' ≡ output_after (answer_of a) text 0 line)
+    → length line ≤ length text → (r : Refusal) → a ≡ Err r → ⊥
+unfolding append_text has_room
+shown_never text text' line a got room r e =
+    let all : pick (leb (0 + length line) (length text)) (accepted (0 + length line)) (refused 22) ≡ accepted (0 + length line) = rw (le-leb (0 + length line) (length text) (omega arith)) in
+    let is : refused (number_of r) ≡ accepted (0 + length line) = sym (ap answer_of e) ∙ (got.0 ∙ all) in
+    let z : ◌≡◌ {A = ℕ} 0 1 = cc in
+    omega arith

@@ -1,10 +1,11 @@
 -- Laws of the link's words: what is put reads back, and words that are no link are out of range. Assumes nothing.
-use mathlib.Core.Path.{◌≡◌, refl}
+use mathlib.Core.Path.{◌≡◌, refl, ap, ◌∙◌}
 use mathlib.Core.Bool.{true, ◌&&◌}
-use mathlib.Core.List.{List, [], ◌∷◌}
-use Prim.Native.Nat.{ℕ, ◌<◌, ◌^◌}
+use mathlib.Core.List.{List, [], ◌∷◌, ◌++◌, append-nil}
+use Prim.Native.Nat.{ℕ, ◌+◌, ◌<◌, ◌^◌}
 use native.Mathlib.Omega.{arith}
-use lib.ListN.{length, get_or}
+use lib.ListN.{length, get_or, drop}
+use lib.Seq.{sets, sets-eq, drop-length}
 use borrow.Author.Tests.{eq-eqb, ne_eqb, ltb-true}
 use lib.Dec.{eqb, ltb}
 use Rattle.refusals.proofs.Tests.{by_cases}
@@ -70,3 +71,9 @@ other_phase words h =
     by_cases (eqb (length words) 6)
     (λ e. simp (e, ne_eqb (get_or words 0 0) 0 (λ z. omega arith), ne_eqb (get_or words 0 0) 1 (λ z. omega arith), ne_eqb (get_or words 0 0) 2 (λ z. omega arith)))
     (λ e. simp e)
+
+-- putting as many words as there are leaves just these
+pub put_all : (vs l : List ℕ) → length l ≡ length vs → sets l 0 vs ≡ vs
+put_all vs l e =
+    let z : 0 + length vs ≡ length l = omega arith in
+    sets-eq vs l 0 (omega arith) ∙ ap (λ (k : ℕ). vs ++ drop k l) z ∙ ap (λ (r : List ℕ). vs ++ r) (drop-length l) ∙ append-nil vs
