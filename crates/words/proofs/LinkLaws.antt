@@ -21,6 +21,12 @@ use Rattle.words.proofs.Words.{narrow_small}
 
 -- ---- putting
 
+-- putting as many words as there are leaves just these
+pub put_all : (vs l : List ℕ) → length l ≡ length vs → sets l 0 vs ≡ vs
+put_all vs l e =
+    let z : 0 + length vs ≡ length l = omega arith in
+    sets-eq vs l 0 (omega arith) ∙ ap (λ (k : ℕ). vs ++ drop k l) z ∙ ap (λ (r : List ℕ). vs ++ r) (drop-length l) ∙ append-nil vs
+
 module _ (link : Link) (words : List ℕ) where
   pub put_none : (length words ≡ 6 → ⊥) → words ≡ with_link link words
   unfolding with_link
@@ -32,6 +38,13 @@ module _ (link : Link) (words : List ℕ) where
       → after ≡ with_link link words
   unfolding with_link link_words
   put_six n p b l e = simp (eq-eqb _ _ n, ← p, ← b, ← l) e
+
+  -- the words put one by one
+  pub put_each : {phase lid : ℕ} {beacon : Beacon} {after : List ℕ} → length words ≡ 6
+      → phase ≡ phase_number link.phase → beacon ≡ phase_beacon link.phase → lid ≡ phase_lid link.phase
+      → after ≡ sets words 0 (phase ∷ narrow_to 32 beacon.manufacturer ∷ narrow_to 32 beacon.individual ∷ lid ∷ link.time ∷ link.tick ∷ [])
+      → after ≡ with_link link words
+  put_each n p b l e = put_six n p b l (e ∙ put_all _ words n)
 
 -- ---- reading back
 
@@ -71,9 +84,3 @@ other_phase words h =
     by_cases (eqb (length words) 6)
     (λ e. simp (e, ne_eqb (get_or words 0 0) 0 (λ z. omega arith), ne_eqb (get_or words 0 0) 1 (λ z. omega arith), ne_eqb (get_or words 0 0) 2 (λ z. omega arith)))
     (λ e. simp e)
-
--- putting as many words as there are leaves just these
-pub put_all : (vs l : List ℕ) → length l ≡ length vs → sets l 0 vs ≡ vs
-put_all vs l e =
-    let z : 0 + length vs ≡ length l = omega arith in
-    sets-eq vs l 0 (omega arith) ∙ ap (λ (k : ℕ). vs ++ drop k l) z ∙ ap (λ (r : List ℕ). vs ++ r) (drop-length l) ∙ append-nil vs
