@@ -73,6 +73,7 @@ value_copied f w row out at {area} {r} of ow inside room a e = e ∙ by row.writ
   where
     copied : List ℕ → List ℕ
     copied l = copy_string (take (row.start + row.length - row.start) (drop row.start l)) 0 row.length out at
+
     by : (p : Bool) → row.start + row.length ≤ pick p (length w) (length f) → area ≡ pick p w f
         → copied area ≡ take at out ++ (take row.length (drop row.start (pick p w f)) ++ drop (at + row.length) out)
     by true i a = ap copied a ∙ part_copied w out row.start row.length at ow i room

@@ -1,5 +1,5 @@
 -- The part of the row's area.
-use Rattle.std.proofs.Common.{◌≡◌, ℕ, List, Bor, refl, ap}
+use Rattle.std.proofs.Common.{◌≡◌, ℕ, List, Bor, ap}
 use Rattle.refusals.specs.Check.{pick}
 use Rattle.bits.proofs.Laws.{octets_known}
 use Rattle.attributes.proofs.Gathering.{value_copied}

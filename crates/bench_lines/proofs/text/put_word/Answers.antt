@@ -1,7 +1,7 @@
 -- `bench_lines::text::put_word` meets its contract: it copies the whole word. Assumes nothing.
 use native.Mathlib.Numerals.{add-one}
 use native.Mathlib.Omega.{arith}
-use lib.Seq.{paste, paste-zero, paste-suc}
+use lib.Seq.{paste-zero, paste-suc}
 use Rattle.bench_lines.proofs.Appending.{word_copied}
 use Rattle.bench_lines.proofs.text.put_word.Goals as goal
 
