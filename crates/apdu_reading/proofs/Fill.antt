@@ -9,7 +9,7 @@ use native.Mathlib.Omega.{arith}
 use lib.ListN.{length, take, set, length-set}
 use lib.Seq.{take-suc-set, take-set-le, get_or-set_same, get_or-set_other, drop-append-le, length-take-le}
 use lib.Dec.{ltb, eqb}
-use borrow.Author.Tests.{eq-eqb, ne_eqb, ltb-true, ltb-false, eqb-true, eqb-false}
+use borrow.Author.Tests.{eq-eqb, ne_eqb, le-ltb, ltb-true, ltb-false, eqb-true, eqb-false}
 use Rattle.refusals.specs.Check.{pick}
 use Rattle.refusals.proofs.Tests.{by_cases, and_true}
 use Rattle.bits.specs.Bits.{bits}
@@ -191,3 +191,7 @@ filled_none s o {r} p z =
       long = p.long;
       few = p.few;
     }
+
+-- where more rows may be announced than there is room, none is wanted
+pub none_wanted : (c : Cursor) (used : ℕ) → c.fault ≡ 0 → 32 ≤ c.room → false ≡ Wants c used
+none_wanted c used h k = let l : ltb used (32 - c.room) ≡ false = le-ltb used (32 - c.room) (omega arith) in rw (eq-eqb _ _ h, l)

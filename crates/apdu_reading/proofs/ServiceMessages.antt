@@ -1,6 +1,6 @@
 -- Each service message up to its rows, from the readings of its components: whatever follows, the message is read.
 -- Assumes nothing.
-use Prim.Native.Nat.{ℕ, ◌+◌, ◌≤◌, ◌<◌}
+use Prim.Native.Nat.{ℕ, ◌+◌, ◌%◌, ◌≤◌, ◌<◌}
 use mathlib.Core.Path.{◌≡◌, refl, sym, ◌∙◌}
 use mathlib.Core.List.{List, [], ◌∷◌}
 use mathlib.Core.Bool.{Bool, true, false}
@@ -352,3 +352,15 @@ pub read_rows : {s : List ℕ} {o : Opened} → Opens s o → {rows : List Row} 
 read_rows {s} {o} p e {q} f {r} m = let g : Filled s (due_of o) (unread o.cursor) q = rw (sym e) f in p.whole q r g m
 
 -- ---- choices that are left
+
+pub even : (n : ℕ) → n % 2 ≡ 0 → n ≤ 2 → (n ≡ 2 → ⊥) → n ≡ 0
+even n a b c = omega (arith, c)
+
+pub odd : (n : ℕ) → n % 2 ≡ 1 → 3 ≤ n → n ≤ 5 → (n ≡ 5 → ⊥) → n ≡ 3
+odd n a b c d = omega (arith, d)
+
+pub low_even : (n : ℕ) → n < 8 → n % 2 ≡ 0 → (n ≡ 4 → ⊥) → (n ≡ 6 → ⊥) → n ≤ 2
+low_even n a b c d = omega (arith, c, d)
+
+pub low_odd : (n : ℕ) → n < 8 → (n % 2 ≡ 0 → ⊥) → (n ≡ 1 → ⊥) → (n ≡ 7 → ⊥) → (n % 2 ≡ 1) × (3 ≤ n) × (n ≤ 5)
+low_odd n a b c d = (omega (arith, b), omega (arith, b, c), omega (arith, b, d))

@@ -36,12 +36,15 @@ rows_more es i {e} f o h g =
     rw (o, g) (sym (rows_of_snoc (take i es) e))
     ∙ ap (λ (x : Entry). rows_of (take i es ++ (x ∷ []))) f ∙ ap rows_of (sym (take-suc es i empty_entry h)) ∙ ap (λ (k : ℕ). rows_of (take k es)) (sym (add-one i))
 
-pub rows_whole : (es : List Entry) (i : ℕ) {used : ℕ} → length es ≤ i → used ≡ rows_of (take i es) → used ≡ rows_of es
-rows_whole es i h g = g ∙ ap rows_of (take_all i es h)
+pub rows_end : (es : List Entry) (i : ℕ) {used : ℕ} → length es ≤ i → used ≡ rows_of (take i es) → used ≡ rows_of es
+rows_end es i h g = g ∙ ap rows_of (take_all i es h)
 
 -- of an array, as many as there are
 pub rows_clamped : (es : List Entry) (n : ℕ) {k : ℕ} → length es ≡ 32 → k ≡ lesser 32 n → rows_of (take k es) ≡ rows_of (take n es)
 rows_clamped es n e f = ap (λ (k : ℕ). rows_of (take k es)) (f ∙ ap (λ (k : ℕ). lesser k n) (sym e)) ∙ ap rows_of (lesser_take n es)
+
+pub rows_whole : (es : List Entry) (n i : ℕ) {used : ℕ} → length es ≡ 32 → i ≡ lesser 32 n → used ≡ rows_of (take i es) → used ≡ rows_of (take n es)
+rows_whole es n i e f g = g ∙ rows_clamped es n e f
 
 -- ---- one entry
 

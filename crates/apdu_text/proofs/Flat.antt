@@ -14,6 +14,7 @@ use Rattle.refusals.specs.Check.{pick}
 use Rattle.apdu.specs.declared.lists.Row.{Row}
 use Rattle.apdu.specs.Values.{empty_row}
 use Rattle.apdu.specs.Sound.{nested}
+use Rattle.apdu.proofs.Tables.{part_place}
 use Rattle.apdu_text.specs.Words.{refused_with, at_place, messages_are, refused_are, same_are}
 use Rattle.apdu_text.specs.Parts.{decimal, when, seam, going_on, opened, row_front, rows_text}
 use Rattle.apdu_text.specs.Lines.{refusal_text, totals_text}
@@ -151,3 +152,11 @@ rows_none s rs n o e = writes_as (rw (eq-eqb n 0 e) (sym (none_open s rs))) (non
 pub rows_as : {text : List ℕ} {o : Pen} (s : List ℕ) (rs : List Row) {due e : List ℕ} {depth d : ℕ} {p q : Pen} → due ≡ e → depth ≡ d → p ≡ q
     → Leaves text o (rows_text s (stack_of e d) rs) q → Leaves text o (rows_text s (stack_of due depth) rs) p
 rows_as s rs a b c l = rw (a, b, c) l
+
+-- ---- a part of a table
+
+pub part_at : {A : Type 0} (table : List A) (first count i : ℕ) (d : A) → i < length (take count (drop first table))
+    → drop i (take count (drop first table)) ≡ get_or table (first + i) d ∷ drop (i + 1) (take count (drop first table))
+part_at table first count i d h =
+    let p = take count (drop first table) in
+    drop-cons p i d h ∙ rw (← part_place d table first count i refl h, ← add-one i)

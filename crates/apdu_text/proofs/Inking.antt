@@ -1,17 +1,20 @@
 -- Laws of the pen: texts one behind the other, and when a measured text has room.
 -- Assumes nothing.
-use Prim.Native.Nat.{ℕ, suc, ◌+◌, ◌≤◌, ◌<◌, min}
+use Prim.Native.Nat.{ℕ, suc, ◌+◌, ◌-◌, ◌≤◌, ◌<◌, min}
 use mathlib.Core.Path.{◌≡◌, refl, ap, sym, ◌∙◌}
 use mathlib.Core.Bool.{Bool, true, false}
 use mathlib.Core.List.{List, [], ◌∷◌, ◌++◌, append_assoc}
 use native.Mathlib.Omega.{arith}
 use native.Mathlib.Numerals.{add-one}
 use lib.Dec.{ltb}
-use lib.ListN.{length, take, drop, set}
-use lib.Seq.{sets, set_out, sets-eq}
+use lib.ListN.{length, take, drop, set, length-set, drop_of_length-le}
+use lib.Seq.{sets, set_out, sets-eq, length-take-le, take_all}
+use borrow.Rule.Slice.PartMut.{put_mid}
+use Rattle.std.proofs.lemmas.Slice.{put_mid-paste}
+use Rattle.std.proofs.lemmas.List.{take-append-drop}
 use borrow.Author.Tests.{lt-ltb, le-ltb, lt-leb, le-leb}
 use Rattle.refusals.specs.Check.{accepted, refused}
-use Rattle.refusals.proofs.Tests.{by_test}
+use Rattle.refusals.proofs.Tests.{by_test, by_cases}
 use Rattle.bench_lines.specs.Text.{written, has_room, append_text, output_after}
 use Rattle.apdu_text.specs.Parts.{when}
 use Rattle.apdu_text.specs.Ink.{farthest, next, place_after, inked, Writes}
@@ -127,7 +130,7 @@ next_most : (at : ℕ) → next at ≤ at + 1
 unfolding next
 next_most at = by_test (λ (k : ℕ). k ≤ at + 1) (ltb at farthest) (λ t. omega arith) (λ t. omega arith)
 
-next_near : (at : ℕ) → at < farthest → at + 1 ≡ next at
+pub next_near : (at : ℕ) → at < farthest → at + 1 ≡ next at
 unfolding next
 next_near at h = rw (lt-ltb at farthest h)
 
@@ -158,6 +161,75 @@ inked_sets out at (c ∷ text) h =
     let e : next at ≡ suc at = sym (next_near at near) ∙ add-one at in
     inked_sets (set out at c) (next at) text h ∙ ap (λ (k : ℕ). sets (set out at c) k text) e
 
+-- ---- a text at once
+
+place_whole : (at : ℕ) (text : List ℕ) → at ≤ farthest → min (at + length text) farthest ≡ place_after at text
+unfolding place_after
+place_whole at [] h = omega arith
+place_whole at (c ∷ text) h =
+    let e = next_is at h in
+    let small : next at ≤ farthest = omega arith in
+    let f = place_whole (next at) text small in
+    omega arith
+
+inked_length : (out : List ℕ) (at : ℕ) (text : List ℕ) → length (inked out at text) ≡ length out
+unfolding inked
+inked_length out at [] = refl
+inked_length out at (c ∷ text) = inked_length (set out at c) (next at) text ∙ length-set out at c
+
+inked_far : (out : List ℕ) (at : ℕ) (text : List ℕ) → length out ≤ at → inked out at text ≡ out
+unfolding inked
+inked_far out at [] h = refl
+inked_far out at (c ∷ text) h =
+    ap (λ (o : List ℕ). inked o (next at) text) (set_out out at c h) ∙ inked_far out (next at) text (omega (arith, next_grows at))
+
+-- none of it has room
+pub far_writes : (text : List ℕ) (o : Pen) {p : Pen} {n r : ℕ} → p ≡ o → length o.out.now ≤ o.at → o.at ≤ farthest → n ≡ length text → r ≡ min (o.at + n) farthest
+    → Writes text o record { out = p.out; at = r }
+far_writes text o e j h m f = record {
+  same = ap (λ (p : Pen). p.out.ghost_name) e;
+  place = f ∙ ap (λ (k : ℕ). min (o.at + k) farthest) m ∙ place_whole o.at text h;
+  octets = ap (λ (p : Pen). p.out.now) e ∙ sym (inked_far o.out.now o.at text j);
+}
+
+inked_none : (out : List ℕ) (at : ℕ) → inked out at [] ≡ out
+unfolding inked
+inked_none out at = refl
+
+-- as much as has room is what the whole text sets
+inked_front : (out : List ℕ) (at : ℕ) (text : List ℕ) (n : ℕ) → at ≤ length out → length out < farthest → n ≡ min (length text) (length out - at)
+    → inked out at text ≡ take at out ++ take n text ++ drop (at + n) out
+inked_front out at text n h small e =
+    let a = take n text in
+    let b = drop n text in
+    let long : length a ≡ n = length-take-le n text (omega arith) in
+    let place : place_after at a ≡ at + n = sym (place_whole at a (omega arith)) ∙ omega arith in
+    let near : place_after at a < farthest = omega arith in
+    let front : inked out at a ≡ take at out ++ a ++ drop (at + n) out =
+    inked_sets out at a near ∙ sets-eq a out at (omega arith) ∙ ap (λ (k : ℕ). take at out ++ a ++ drop (at + k) out) long in
+    let rest : inked (inked out at a) (place_after at a) b ≡ inked out at a =
+    by_cases (ltb n (length text))
+    (λ t. inked_far (inked out at a) (place_after at a) b (omega (arith, inked_length out at a, borrow.Author.Tests.ltb-true n (length text) t)))
+    (λ t. ap (λ (l : List ℕ). inked (inked out at a) (place_after at a) l) (drop_of_length-le text (borrow.Author.Tests.ltb-false n (length text) t)) ∙ inked_none (inked out at a) (place_after at a)) in
+    ap (λ (l : List ℕ). inked out at l) (sym (take-append-drop n text)) ∙ inked_append out at a b ∙ rest ∙ front
+
+pub copied_writes : (text : List ℕ) (o : Pen) {p : Pen} {n k r : ℕ} {put : List ℕ} → p ≡ record o { out = record o.out { now = put_mid o.at k o.out.now put } } → o.at < length o.out.now
+    → length o.out.now < farthest → n ≡ min (length text) (length o.out.now - o.at) → put ≡ take n text → n ≡ k → r ≡ min (o.at + length text) farthest → Writes text o record { out = p.out; at = r }
+copied_writes text o {n = n} {k = k} {put = put} e h small m q g f =
+    let long : n ≡ length (take n text) = sym (length-take-le n text (omega arith)) in
+    record {
+      same = ap (λ (p : Pen). p.out.ghost_name) e;
+      place = f ∙ place_whole o.at text (omega arith);
+      octets = ap (λ (p : Pen). p.out.now) e ∙ rw (take_all n (take n text) (omega arith)) at (put_mid-paste o.at k o.out.now put (take n text) n q g long) ∙ sym (inked_front o.out.now o.at text n (omega arith) small m);
+    }
+
+-- all of it has room
+pub whole_writes : (text : List ℕ) (o : Pen) {p : Pen} {k r : ℕ} {put : List ℕ} → p ≡ record o { out = record o.out { now = put_mid o.at k o.out.now put } } → o.at < length o.out.now
+    → length o.out.now < farthest → length text ≤ length o.out.now - o.at → put ≡ text → length text ≡ k → r ≡ min (o.at + length text) farthest → Writes text o record { out = p.out; at = r }
+whole_writes text o e h small m q g f = copied_writes text o e h small (omega arith) (q ∙ sym (take_all (length text) text (omega arith))) g f
+
+-- ---- a measured text
+
 -- measured, and then written
 module _ (out : List ℕ) (at : ℕ) (text : List ℕ) {size : ℕ} (m : size ≡ place_after at text) where
   pub no_room : length out < size → (refused 22 ≡ append_text out at text) × (out ≡ output_after (refused 22) out at text)
@@ -176,3 +248,7 @@ module _ (out : List ℕ) (at : ℕ) (text : List ℕ) {size : ℕ} (m : size �
         simp (le-leb (at + length text) (length out) k) (ap accepted (f ∙ i)),
         g ∙ inked_sets out at text near ∙ sets-eq text out at k ∙ append_assoc (take at out) text (drop (at + length text) out),
       )
+
+pub next_far : (at : ℕ) → farthest ≤ at → at ≡ next at
+unfolding next
+next_far at h = rw (le-ltb at farthest h)

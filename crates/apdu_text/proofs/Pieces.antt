@@ -13,6 +13,7 @@ use borrow.Author.Tests.{eq-eqb, ne_eqb, leb-true}
 use Rattle.refusals.proofs.Tests.{by_test, by_cases, and_true, and_left, and_right}
 use Rattle.bits.specs.Bits.{field}
 use Rattle.bits.specs.Strings.{is_inside, string_at}
+use Rattle.bits.proofs.Strings.{length_string}
 use Rattle.bench_lines.specs.Numerals.{digit_for}
 use Rattle.bench_lines.specs.Line.{hex_text}
 use Rattle.apdu_text.specs.Words.{octets_of, eid_of, ids_of, attributes_of}
@@ -45,6 +46,19 @@ reach octets start n {most} {k} e h =
   where
     few : shown octets start n ≤ n
     few = by_test (λ (m : ℕ). m ≤ n) (is_inside octets start n && is_inside 65536 start n) (λ t. omega arith) (λ t. omega arith)
+
+pub part_small : (octets start n : ℕ) {most : ℕ} → most ≡ shown octets start n → most ≤ 65536
+part_small octets start n {most = zero} e = omega arith
+part_small octets start n {most = suc k} e = omega (arith, reach octets start n {most = suc k} {k = k} e (omega arith))
+
+length_hex : (s : List ℕ) → length (hex_text s) ≡ 2 * length s
+unfolding hex_text
+length_hex [] = refl
+length_hex (o ∷ s) = omega (arith, length_hex s)
+
+pub part_length : (s : List ℕ) (start n : ℕ) {most : ℕ} → most ≡ shown (length s) start n → 2 * most ≡ length (hex_text (part_at s start n))
+unfolding part_at
+part_length s start n e = let k = shown (length s) start n in omega (arith, length_hex (string_at s start k), length_string s start k)
 
 -- ---- the octets of a part in turns
 

@@ -36,9 +36,19 @@ impl Pen<'_> {
         ensures { Writes (hex_text (part_at s.now start n)) self.old self.new }
     {
         let most = shown(s.len(), start, n);
-        for k in 0..most {
-            self.octet(octet(s, start, k));
+        // Where no character has room, as in measuring, the place goes on at once.
+        if self.out.len() <= self.at {
+            self.at = self.at.saturating_add(2 * most);
+            return;
         }
+        let mut pen = Pen {
+            out: &mut *self.out,
+            at: self.at,
+        };
+        for k in 0..most {
+            pen.octet(octet(s, start, k));
+        }
+        self.at = pen.at;
     }
 
     // The numbers of a part in brackets.

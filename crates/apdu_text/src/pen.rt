@@ -30,22 +30,40 @@ impl Pen<'_> {
         self.at = self.at.saturating_add(1);
     }
 
+    // As many of the characters as have room are set at once.
     pub(crate) fn word(&mut self, word: &[u8])
         ensures { Writes word.now self.old self.new }
     {
-        for c in word {
-            self.character(*c);
+        let at = self.at;
+        if at < self.out.len() {
+            let room = self.out.len() - at;
+            if word.len() <= room {
+                self.out[at..at + word.len()].copy_from_slice(word);
+            } else {
+                self.out[at..at + room].copy_from_slice(&word[..room]);
+            }
         }
+        self.at = at.saturating_add(word.len());
     }
 
-    // A number in decimal.
+    // A number in decimal: 20 digits are enough, set from the last on.
     pub(crate) fn decimal(&mut self, n: u64)
         ensures { Writes (decimal n) self.old self.new }
     {
-        if 9 < n {
-            self.decimal(n / 10);
+        if n < 10 {
+            self.character(b'0' + n as u8);
+            return;
         }
-        self.character(b'0' + (n % 10) as u8);
+        let mut digits = [0u8; 20];
+        let mut rest = n;
+        for i in (0..20usize).rev() {
+            digits[i] = b'0' + (rest % 10) as u8;
+            rest /= 10;
+            if rest == 0 {
+                self.word(&digits[i..]);
+                return;
+            }
+        }
     }
 
     // An octet in hex.
@@ -56,12 +74,17 @@ impl Pen<'_> {
         self.character(digit(o % 16));
     }
 
-    // Octets in hex.
+    // Octets in hex. They are set by a local pen, whose place need not be stored at each character.
     pub(crate) fn hex(&mut self, octets: &[u8])
         ensures { Writes (hex_text octets.now) self.old self.new }
     {
+        let mut pen = Pen {
+            out: &mut *self.out,
+            at: self.at,
+        };
         for o in octets {
-            self.octet(*o);
+            pen.octet(*o);
         }
+        self.at = pen.at;
     }
 }

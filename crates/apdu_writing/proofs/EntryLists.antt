@@ -1,6 +1,6 @@
 -- Application entries one after the other, each with its rows.
 -- Assumes nothing.
-use Prim.Native.Nat.{ℕ, suc, ◌+◌, ◌-◌, ◌*◌, ◌%◌, ◌≤◌, ◌<◌}
+use Prim.Native.Nat.{ℕ, suc, ◌+◌, ◌-◌, ◌*◌, ◌≤◌, ◌<◌}
 use mathlib.Core.Path.{◌≡◌, refl, ap, sym, ◌∙◌}
 use mathlib.Core.List.{List, [], ◌∷◌, ◌++◌}
 use mathlib.Core.Bool.{Bool, true, false, ◌&&◌, not}
@@ -41,12 +41,12 @@ module _ (e : Entry) where
   unfolding is_value fits shape fields_fit checks_of first_of numbers_of
   entry_range room = rw (bit_fits e.has_eid, bit_fits e.has_parameter) (sym (and_unit (ltb e.aid 32 && true) ∙ and_unit (ltb e.aid 32)))
 
-  entry_packed : {x y z : ℕ} → x ≡ bit_of e.has_eid → y ≡ bit_of e.has_parameter → z ≡ e.aid % 32 → ltb e.aid 32 ≡ true
+  entry_packed : {x y z : ℕ} → x ≡ bit_of e.has_eid → y ≡ bit_of e.has_parameter → (e.aid < 32 → z ≡ e.aid) → ltb e.aid 32 ≡ true
       → 128 * x + 64 * y + z ≡ packed (1 ∷ 1 ∷ 1 ∷ 5 ∷ []) fs
   unfolding packed sum
-  entry_packed p q f g = let h = ltb-true e.aid 32 g in omega arith
+  entry_packed p q f g = let h = f (ltb-true e.aid 32 g) in omega arith
 
-  entry_lead : {x y z : ℕ} {c r : Quill} {o o' : List ℕ} → x ≡ bit_of e.has_eid → y ≡ bit_of e.has_parameter → z ≡ e.aid % 32
+  entry_lead : {x y z : ℕ} {c r : Quill} {o o' : List ℕ} → x ≡ bit_of e.has_eid → y ≡ bit_of e.has_parameter → (e.aid < 32 → z ≡ e.aid)
       → Put 1 (ltb e.aid 32) c r (write_field o (8 * c.at) 8 (128 * x + 64 * y + z)) o o'
       → Moves true (entry ∷ []) (when e.has_eid (integer ∷ []) ++ when e.has_parameter (container 1 ∷ [])) c r o o' (fields fs ∷ [])
   unfolding brings announced numbers_of sum
@@ -59,7 +59,7 @@ module _ (e : Entry) where
       brought = rw (is_set_law e.has_eid, is_set_law e.has_parameter)
 
   -- with its own rows, at the front of rs
-  pub entry_by : (s : List ℕ) (rs : List Row) {own x y z : ℕ} {c d f r : Quill} {o o₁ o₂ o₃ : List ℕ} → own ≡ entry_rows e → x ≡ bit_of e.has_eid → y ≡ bit_of e.has_parameter → z ≡ e.aid % 32
+  pub entry_by : (s : List ℕ) (rs : List Row) {own x y z : ℕ} {c d f r : Quill} {o o₁ o₂ o₃ : List ℕ} → own ≡ entry_rows e → x ≡ bit_of e.has_eid → y ≡ bit_of e.has_parameter → (e.aid < 32 → z ≡ e.aid)
       → Put 1 (ltb e.aid 32) c d (write_field o (8 * c.at) 8 (128 * x + 64 * y + z)) o o₁
       → Puts true (when e.has_eid (integer ∷ [])) d f o₁ o₂ (num_if e.has_eid e.eid)
       → Puts (sound_if e.has_parameter (container_sound (length s) e.kind e.n e.start (take own rs))) (when e.has_parameter (container 1 ∷ [])) f r o₂ o₃ (if e.has_parameter (container_values s e.kind e.n e.start (take own rs)))

@@ -1,6 +1,6 @@
 -- The choice and the leading part of each kind, which the code writes together, and the components that they bring.
 -- Assumes nothing.
-use Prim.Native.Nat.{ℕ, ◌+◌, ◌*◌, ◌%◌, ◌≤◌, ◌<◌}
+use Prim.Native.Nat.{ℕ, ◌+◌, ◌*◌, ◌≤◌, ◌<◌}
 use mathlib.Core.Path.{◌≡◌, refl, ap, sym, ◌∙◌}
 use mathlib.Core.List.{List, [], ◌∷◌, ◌++◌, append-nil}
 use mathlib.Core.Bool.{Bool, true, false, ◌&&◌}
@@ -78,7 +78,7 @@ bits_fill_mode a b d n = rw (bit_fits a, bit_fits b, bit_fits d) (sym (and_unit 
 
 -- ---- event or set response
 
-module _ (m : Response) (k : ℕ) {x y z : ℕ} {c r : Quill} {o o' : List ℕ} (small : k < 10) (p : x ≡ bit_of m.has_iid) (q : y ≡ bit_of m.has_ret) (f : z ≡ m.fill % 4)
+module _ (m : Response) (k : ℕ) {x y z : ℕ} {c r : Quill} {o o' : List ℕ} (small : k < 10) (p : x ≡ bit_of m.has_iid) (q : y ≡ bit_of m.has_ret) (f : m.fill < 4 → z ≡ m.fill)
     (put : Put 1 (ltb m.fill 4) c r (write_field o (8 * c.at) 8 (16 * k + 8 * x + 4 * y + z)) o o') where
   abbrev fs : List ℕ
   fs = bit_of m.has_iid ∷ bit_of m.has_ret ∷ m.fill ∷ []
@@ -94,7 +94,7 @@ module _ (m : Response) (k : ℕ) {x y z : ℕ} {c r : Quill} {o o' : List ℕ} 
       fit = unfold fields_fit in rw (bit_fits m.has_iid, bit_fits m.has_ret) (sym (and_unit (ltb m.fill 4)))
 
       value : ltb m.fill 4 ≡ true → 16 * k + 8 * x + 4 * y + z ≡ packed (4 ∷ 1 ∷ 1 ∷ 2 ∷ []) (k ∷ fs)
-      value g = let h = ltb-true m.fill 4 g in unfold packed sum in omega arith
+      value g = let h = f (ltb-true m.fill 4 g) in unfold packed sum in omega arith
 
       brought : present fs (layout_of k).body ≡ (integer ∷ []) ++ (when m.has_iid (integer ∷ []) ++ (when m.has_ret (integer ∷ []) ++ []))
       brought = rw e (unfold present layout_of in rw (is_set_law m.has_iid, is_set_law m.has_ret))

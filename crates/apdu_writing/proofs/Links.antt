@@ -1,6 +1,6 @@
 -- BST and VST: numbers of two and four octets, configuration, the part before the lists, and the whole.
 -- Assumes nothing.
-use Prim.Native.Nat.{ℕ, ◌+◌, ◌*◌, ◌%◌}
+use Prim.Native.Nat.{ℕ, ◌+◌, ◌*◌, ◌<◌}
 use mathlib.Core.Path.{◌≡◌, refl, ap, sym, subst, ◌∙◌}
 use mathlib.Core.List.{List, [], ◌∷◌, ◌++◌}
 use mathlib.Core.Bool.{Bool, true, false, ◌&&◌, not}
@@ -70,11 +70,11 @@ module _ (p : Bool) (n : ℕ) where
   unfolding is_value fits shape fields_fit checks_of first_of numbers_of
   class_range room = rw (bit_fits p) (sym (and_unit (ltb n 32768 && true) ∙ and_unit (ltb n 32768)))
 
-  class_packed : {x z : ℕ} → x ≡ bit_of p → z ≡ n % 32768 → ltb n 32768 ≡ true → 32768 * x + z ≡ packed (1 ∷ 15 ∷ []) (bit_of p ∷ n ∷ [])
+  class_packed : {x z : ℕ} → x ≡ bit_of p → (n < 32768 → z ≡ n) → ltb n 32768 ≡ true → 32768 * x + z ≡ packed (1 ∷ 15 ∷ []) (bit_of p ∷ n ∷ [])
   unfolding packed sum
-  class_packed q f g = let h = ltb-true n 32768 g in omega arith
+  class_packed q f g = let h = f (ltb-true n 32768 g) in omega arith
 
-  class_lead : {x z : ℕ} {c r : Quill} {o o' : List ℕ} → x ≡ bit_of p → z ≡ n % 32768 → Put 2 (ltb n 32768) c r (write_field o (8 * c.at) 16 (32768 * x + z)) o o'
+  class_lead : {x z : ℕ} {c r : Quill} {o o' : List ℕ} → x ≡ bit_of p → (n < 32768 → z ≡ n) → Put 2 (ltb n 32768) c r (write_field o (8 * c.at) 16 (32768 * x + z)) o o'
       → Moves true (class ∷ []) ((fixed 2 ∷ []) ++ when p (fixed 2 ∷ [])) c r o o' (fields (bit_of p ∷ n ∷ []) ∷ [])
   unfolding brings announced numbers_of sum
   class_lead {x} {z} {c} {r} {o} q f m =
@@ -85,7 +85,7 @@ module _ (p : Bool) (n : ℕ) where
       brought : (fixed 2 ∷ []) ++ when (is_set (bit_of p ∷ n ∷ []) 0) (fixed 2 ∷ []) ≡ (fixed 2 ∷ []) ++ when p (fixed 2 ∷ [])
       brought = rw (is_set_law p)
 
-  pub configuration_by : (maker status : ℕ) {x z : ℕ} {c d e r : Quill} {o o₁ o₂ o₃ : List ℕ} → x ≡ bit_of p → z ≡ n % 32768
+  pub configuration_by : (maker status : ℕ) {x z : ℕ} {c d e r : Quill} {o o₁ o₂ o₃ : List ℕ} → x ≡ bit_of p → (n < 32768 → z ≡ n)
       → Put 2 (ltb n 32768) c d (write_field o (8 * c.at) 16 (32768 * x + z)) o o₁ → Puts true (fixed 2 ∷ []) d e o₁ o₂ (fields (maker ∷ []) ∷ [])
       → Puts true (when p (fixed 2 ∷ [])) e r o₂ o₃ (if p (fields (status ∷ []) ∷ []))
       → Puts true (class ∷ []) c r o o₃ (fields (bit_of p ∷ n ∷ []) ∷ fields (maker ∷ []) ∷ if p (fields (status ∷ []) ∷ []))
@@ -94,18 +94,18 @@ module _ (p : Bool) (n : ℕ) where
 -- ---- the part before the lists
 
 module _ (m : Vst) where
-  vst_lead : {z : ℕ} {c r : Quill} {o o' : List ℕ} → z ≡ m.fill % 16 → Put 1 (ltb m.fill 16) c r (write_field o (8 * c.at) 8 (16 * 9 + z)) o o'
+  vst_lead : {z : ℕ} {c r : Quill} {o o' : List ℕ} → (m.fill < 16 → z ≡ m.fill) → Put 1 (ltb m.fill 16) c r (write_field o (8 * c.at) 8 (16 * 9 + z)) o o'
       → Moves true (choice ∷ []) ((integer ∷ []) ++ ((entry_count ∷ []) ++ ((class ∷ []) ++ []))) c r o o' (fields (9 ∷ []) ∷ fields (m.fill ∷ []) ∷ [])
   unfolding sum present layout_of
   vst_lead {z} f p = lead_by 9 (4 ∷ []) (m.fill ∷ []) (16 * 9 + z) (ltb m.fill 16) 1 (omega arith) refl refl (omega arith) fit value p
     where
       value : ltb m.fill 16 ≡ true → 16 * 9 + z ≡ packed (4 ∷ 4 ∷ []) (9 ∷ m.fill ∷ [])
-      value g = let h = ltb-true m.fill 16 g in unfold packed sum in omega arith
+      value g = let h = f (ltb-true m.fill 16 g) in unfold packed sum in omega arith
 
       fit : ltb m.fill 16 ≡ fields_fit (4 ∷ []) (m.fill ∷ [])
       fit = unfold fields_fit in sym (and_unit (ltb m.fill 16))
 
-  pub vst_front_law : {z : ℕ} {c d e : Quill} {o o₁ o₂ : List ℕ} → z ≡ m.fill % 16 → Put 1 (ltb m.fill 16) c d (write_field o (8 * c.at) 8 (16 * 9 + z)) o o₁ → Puts true (integer ∷ []) d e o₁ o₂ (num m.profile ∷ [])
+  pub vst_front_law : {z : ℕ} {c d e : Quill} {o o₁ o₂ : List ℕ} → (m.fill < 16 → z ≡ m.fill) → Put 1 (ltb m.fill 16) c d (write_field o (8 * c.at) 8 (16 * 9 + z)) o o₁ → Puts true (integer ∷ []) d e o₁ o₂ (num m.profile ∷ [])
       → FrontPut m.applications false 0 (class ∷ []) c (record { quill = e; first = m.applications; second = 0; two = false }) o o₂ (vst_front m)
   vst_front_law f p a = record { so = then (vst_lead f p) (before (entry_count ∷ class ∷ []) a); first = refl; two = refl; second = refl }
 
@@ -117,13 +117,13 @@ module _ (m : Bst) where
   unfolding fields_fit
   bst_fit = rw (bit_fits m.has_others, and_unit (ltb m.individual 134217728))
 
-  bst_packed : {x y z : ℕ} → x ≡ bit_of m.has_others → y ≡ m.manufacturer % 65536 → z ≡ m.individual % 134217728
+  bst_packed : {x y z : ℕ} → x ≡ bit_of m.has_others → (m.manufacturer < 65536 → y ≡ m.manufacturer) → (m.individual < 134217728 → z ≡ m.individual)
       → (ltb m.manufacturer 65536 && ltb m.individual 134217728) ≡ true → 17592186044416 * 8 + 8796093022208 * x + 134217728 * y + z ≡ packed (4 ∷ 1 ∷ 16 ∷ 27 ∷ []) (8 ∷ fs)
   unfolding packed sum
   bst_packed p q f g =
       let h = both (ltb m.manufacturer 65536) (ltb m.individual 134217728) g in
-      let a = ltb-true m.manufacturer 65536 h.0 in
-      let b = ltb-true m.individual 134217728 h.1 in
+      let a = q (ltb-true m.manufacturer 65536 h.0) in
+      let b = f (ltb-true m.individual 134217728 h.1) in
       omega arith
 
   bst_present : present fs (layout_of 8).body
@@ -131,7 +131,7 @@ module _ (m : Bst) where
   unfolding present layout_of
   bst_present = rw (is_set_law m.has_others)
 
-  module _ {x y z : ℕ} {c d : Quill} {o o₁ : List ℕ} (p : x ≡ bit_of m.has_others) (q : y ≡ m.manufacturer % 65536) (g : z ≡ m.individual % 134217728)
+  module _ {x y z : ℕ} {c d : Quill} {o o₁ : List ℕ} (p : x ≡ bit_of m.has_others) (q : m.manufacturer < 65536 → y ≡ m.manufacturer) (g : m.individual < 134217728 → z ≡ m.individual)
       (put : Put 6 (ltb m.manufacturer 65536 && ltb m.individual 134217728) c d (write_field o (8 * c.at) 48 (17592186044416 * 8 + 8796093022208 * x + 134217728 * y + z)) o o₁) where
     bst_lead : Moves true (choice ∷ []) ((fixed 4 ∷ []) ++ ((integer ∷ []) ++ ((entry_count ∷ []) ++ (when m.has_others (entry_count ∷ []) ++ ((id_count ∷ []) ++ []))))) c d o o₁ (fields (8 ∷ []) ∷ fields fs ∷ [])
     bst_lead =

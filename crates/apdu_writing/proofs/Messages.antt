@@ -1,6 +1,6 @@
 -- The messages of one leading octet, the choice and four bits, and then the components in Annex A's order.
 -- Assumes nothing.
-use Prim.Native.Nat.{ℕ, ◌+◌, ◌*◌, ◌%◌, ◌<◌}
+use Prim.Native.Nat.{ℕ, ◌+◌, ◌*◌, ◌<◌}
 use mathlib.Core.Path.{◌≡◌, refl, ap, ◌∙◌}
 use mathlib.Core.List.{List, [], ◌∷◌, ◌++◌}
 use mathlib.Core.Bool.{true}
@@ -52,7 +52,7 @@ module _ (s : List ℕ) (m : Request) (rs : List Row) (k : ℕ) {x y z u : ℕ} 
 
 -- ---- action response
 
-module _ (s : List ℕ) (m : ActionResponse) (rs : List Row) {x y z u : ℕ} {c r : Quill} {o o' : List ℕ} (px : x ≡ bit_of m.has_iid) (py : y ≡ bit_of m.has_parameter) (pz : z ≡ bit_of m.has_ret) (pu : u ≡ m.fill % 2)
+module _ (s : List ℕ) (m : ActionResponse) (rs : List Row) {x y z u : ℕ} {c r : Quill} {o o' : List ℕ} (px : x ≡ bit_of m.has_iid) (py : y ≡ bit_of m.has_parameter) (pz : z ≡ bit_of m.has_ret) (pu : m.fill < 2 → u ≡ m.fill)
     (put : Put 1 (ltb m.fill 2) c r (write_field o (8 * c.at) 8 (16 * 1 + 8 * x + 4 * y + 2 * z + u)) o o') where
   action_response_lead : Moves true (choice ∷ []) ((integer ∷ []) ++ ((when m.has_iid (integer ∷ [])) ++ ((when m.has_parameter (container 1 ∷ [])) ++ ((when m.has_ret (integer ∷ [])) ++ [])))) c r o o' (fields (1 ∷ []) ∷ fields (bit_of m.has_iid ∷ bit_of m.has_parameter ∷ bit_of m.has_ret ∷ m.fill ∷ []) ∷ [])
   action_response_lead =
@@ -60,7 +60,7 @@ module _ (s : List ℕ) (m : ActionResponse) (rs : List Row) {x y z u : ℕ} {c 
       (nibble 1 (bit_of m.has_iid) (bit_of m.has_parameter) (bit_of m.has_ret) m.fill (16 * 1 + 8 * x + 4 * y + 2 * z + u) (ltb m.fill 2) (omega arith) (unfold layout_of in refl) (bits_fill m.has_iid m.has_parameter m.has_ret m.fill) (value) put)
     where
       value : ltb m.fill 2 ≡ true → 16 * 1 + 8 * x + 4 * y + 2 * z + u ≡ 16 * 1 + 8 * (bit_of m.has_iid) + 4 * (bit_of m.has_parameter) + 2 * (bit_of m.has_ret) + m.fill
-      value g = let h = ltb-true m.fill 2 g in omega arith
+      value g = let h = pu (ltb-true m.fill 2 g) in omega arith
 
       brought : present (bit_of m.has_iid ∷ bit_of m.has_parameter ∷ bit_of m.has_ret ∷ m.fill ∷ []) (layout_of 1).body ≡ ((integer ∷ []) ++ ((when m.has_iid (integer ∷ [])) ++ ((when m.has_parameter (container 1 ∷ [])) ++ ((when m.has_ret (integer ∷ [])) ++ []))))
       brought = unfold present layout_of in rw (is_set_law m.has_iid, is_set_law m.has_parameter, is_set_law m.has_ret)
@@ -76,7 +76,7 @@ module _ (s : List ℕ) (m : ActionResponse) (rs : List Row) {x y z u : ℕ} {c 
 
 -- ---- set request
 
-module _ (s : List ℕ) (m : SetRequest) (rs : List Row) {x y z u : ℕ} {c r : Quill} {o o' : List ℕ} (px : x ≡ bit_of m.has_credentials) (py : y ≡ bit_of m.has_iid) (pz : z ≡ m.fill % 2) (pu : u ≡ bit_of m.mode)
+module _ (s : List ℕ) (m : SetRequest) (rs : List Row) {x y z u : ℕ} {c r : Quill} {o o' : List ℕ} (px : x ≡ bit_of m.has_credentials) (py : y ≡ bit_of m.has_iid) (pz : m.fill < 2 → z ≡ m.fill) (pu : u ≡ bit_of m.mode)
     (put : Put 1 (ltb m.fill 2) c r (write_field o (8 * c.at) 8 (16 * 4 + 8 * x + 4 * y + 2 * z + u)) o o') where
   set_request_lead : Moves true (choice ∷ []) ((integer ∷ []) ++ ((when m.has_credentials (string_form ∷ [])) ++ ((row_count 1 ∷ []) ++ ((when m.has_iid (integer ∷ [])) ++ [])))) c r o o' (fields (4 ∷ []) ∷ fields (bit_of m.has_credentials ∷ bit_of m.has_iid ∷ m.fill ∷ bit_of m.mode ∷ []) ∷ [])
   set_request_lead =
@@ -84,7 +84,7 @@ module _ (s : List ℕ) (m : SetRequest) (rs : List Row) {x y z u : ℕ} {c r : 
       (nibble 4 (bit_of m.has_credentials) (bit_of m.has_iid) m.fill (bit_of m.mode) (16 * 4 + 8 * x + 4 * y + 2 * z + u) (ltb m.fill 2) (omega arith) (unfold layout_of in refl) (bits_fill_mode m.has_credentials m.has_iid m.mode m.fill) (value) put)
     where
       value : ltb m.fill 2 ≡ true → 16 * 4 + 8 * x + 4 * y + 2 * z + u ≡ 16 * 4 + 8 * (bit_of m.has_credentials) + 4 * (bit_of m.has_iid) + 2 * m.fill + (bit_of m.mode)
-      value g = let h = ltb-true m.fill 2 g in omega arith
+      value g = let h = pz (ltb-true m.fill 2 g) in omega arith
 
       brought : present (bit_of m.has_credentials ∷ bit_of m.has_iid ∷ m.fill ∷ bit_of m.mode ∷ []) (layout_of 4).body ≡ ((integer ∷ []) ++ ((when m.has_credentials (string_form ∷ [])) ++ ((row_count 1 ∷ []) ++ ((when m.has_iid (integer ∷ [])) ++ []))))
       brought = unfold present layout_of in rw (is_set_law m.has_credentials, is_set_law m.has_iid)
@@ -100,7 +100,7 @@ module _ (s : List ℕ) (m : SetRequest) (rs : List Row) {x y z u : ℕ} {c r : 
 
 -- ---- get request
 
-module _ (s : List ℕ) (m : GetRequest) {x y z u : ℕ} {c r : Quill} {o o' : List ℕ} (px : x ≡ bit_of m.has_credentials) (py : y ≡ bit_of m.has_iid) (pz : z ≡ bit_of m.has_ids) (pu : u ≡ m.fill % 2)
+module _ (s : List ℕ) (m : GetRequest) {x y z u : ℕ} {c r : Quill} {o o' : List ℕ} (px : x ≡ bit_of m.has_credentials) (py : y ≡ bit_of m.has_iid) (pz : z ≡ bit_of m.has_ids) (pu : m.fill < 2 → u ≡ m.fill)
     (put : Put 1 (ltb m.fill 2) c r (write_field o (8 * c.at) 8 (16 * 6 + 8 * x + 4 * y + 2 * z + u)) o o') where
   get_request_lead : Moves true (choice ∷ []) ((integer ∷ []) ++ ((when m.has_credentials (string_form ∷ [])) ++ ((when m.has_iid (integer ∷ [])) ++ ((when m.has_ids (id_count ∷ [])) ++ [])))) c r o o' (fields (6 ∷ []) ∷ fields (bit_of m.has_credentials ∷ bit_of m.has_iid ∷ bit_of m.has_ids ∷ m.fill ∷ []) ∷ [])
   get_request_lead =
@@ -108,7 +108,7 @@ module _ (s : List ℕ) (m : GetRequest) {x y z u : ℕ} {c r : Quill} {o o' : L
       (nibble 6 (bit_of m.has_credentials) (bit_of m.has_iid) (bit_of m.has_ids) m.fill (16 * 6 + 8 * x + 4 * y + 2 * z + u) (ltb m.fill 2) (omega arith) (unfold layout_of in refl) (bits_fill m.has_credentials m.has_iid m.has_ids m.fill) (value) put)
     where
       value : ltb m.fill 2 ≡ true → 16 * 6 + 8 * x + 4 * y + 2 * z + u ≡ 16 * 6 + 8 * (bit_of m.has_credentials) + 4 * (bit_of m.has_iid) + 2 * (bit_of m.has_ids) + m.fill
-      value g = let h = ltb-true m.fill 2 g in omega arith
+      value g = let h = pu (ltb-true m.fill 2 g) in omega arith
 
       brought : present (bit_of m.has_credentials ∷ bit_of m.has_iid ∷ bit_of m.has_ids ∷ m.fill ∷ []) (layout_of 6).body ≡ ((integer ∷ []) ++ ((when m.has_credentials (string_form ∷ [])) ++ ((when m.has_iid (integer ∷ [])) ++ ((when m.has_ids (id_count ∷ [])) ++ []))))
       brought = unfold present layout_of in rw (is_set_law m.has_credentials, is_set_law m.has_iid, is_set_law m.has_ids)
@@ -124,7 +124,7 @@ module _ (s : List ℕ) (m : GetRequest) {x y z u : ℕ} {c r : Quill} {o o' : L
 
 -- ---- get response
 
-module _ (s : List ℕ) (m : GetResponse) (rs : List Row) {x y z u : ℕ} {c r : Quill} {o o' : List ℕ} (px : x ≡ bit_of m.has_iid) (py : y ≡ bit_of m.has_attributes) (pz : z ≡ bit_of m.has_ret) (pu : u ≡ m.fill % 2)
+module _ (s : List ℕ) (m : GetResponse) (rs : List Row) {x y z u : ℕ} {c r : Quill} {o o' : List ℕ} (px : x ≡ bit_of m.has_iid) (py : y ≡ bit_of m.has_attributes) (pz : z ≡ bit_of m.has_ret) (pu : m.fill < 2 → u ≡ m.fill)
     (put : Put 1 (ltb m.fill 2) c r (write_field o (8 * c.at) 8 (16 * 7 + 8 * x + 4 * y + 2 * z + u)) o o') where
   get_response_lead : Moves true (choice ∷ []) ((integer ∷ []) ++ ((when m.has_iid (integer ∷ [])) ++ ((when m.has_attributes (row_count 1 ∷ [])) ++ ((when m.has_ret (integer ∷ [])) ++ [])))) c r o o' (fields (7 ∷ []) ∷ fields (bit_of m.has_iid ∷ bit_of m.has_attributes ∷ bit_of m.has_ret ∷ m.fill ∷ []) ∷ [])
   get_response_lead =
@@ -132,7 +132,7 @@ module _ (s : List ℕ) (m : GetResponse) (rs : List Row) {x y z u : ℕ} {c r :
       (nibble 7 (bit_of m.has_iid) (bit_of m.has_attributes) (bit_of m.has_ret) m.fill (16 * 7 + 8 * x + 4 * y + 2 * z + u) (ltb m.fill 2) (omega arith) (unfold layout_of in refl) (bits_fill m.has_iid m.has_attributes m.has_ret m.fill) (value) put)
     where
       value : ltb m.fill 2 ≡ true → 16 * 7 + 8 * x + 4 * y + 2 * z + u ≡ 16 * 7 + 8 * (bit_of m.has_iid) + 4 * (bit_of m.has_attributes) + 2 * (bit_of m.has_ret) + m.fill
-      value g = let h = ltb-true m.fill 2 g in omega arith
+      value g = let h = pu (ltb-true m.fill 2 g) in omega arith
 
       brought : present (bit_of m.has_iid ∷ bit_of m.has_attributes ∷ bit_of m.has_ret ∷ m.fill ∷ []) (layout_of 7).body ≡ ((integer ∷ []) ++ ((when m.has_iid (integer ∷ [])) ++ ((when m.has_attributes (row_count 1 ∷ [])) ++ ((when m.has_ret (integer ∷ [])) ++ []))))
       brought = unfold present layout_of in rw (is_set_law m.has_iid, is_set_law m.has_attributes, is_set_law m.has_ret)

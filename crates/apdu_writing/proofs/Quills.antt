@@ -1,6 +1,6 @@
 -- What the quill's functions answer, one law for each way out.
 -- Assumes nothing.
-use Prim.Native.Nat.{ℕ, ◌+◌, min}
+use Prim.Native.Nat.{ℕ, ◌+◌, ◌<◌, min}
 use mathlib.Core.Path.{◌≡◌, ap, sym, ◌∙◌}
 use mathlib.Core.List.{List}
 use mathlib.Core.Bool.{Bool, true, false, ◌&&◌, not}
@@ -9,7 +9,7 @@ use lib.Dec.{ltb}
 use borrow.Author.Tests.{ltb-true, ltb-false, not-true, not-false}
 use Rattle.refusals.proofs.Tests.{by_test}
 use Rattle.apdu_writing.specs.declared.quill.Quill.{Quill}
-use Rattle.apdu_writing.specs.Quill.{quill, far, least, behind, Put}
+use Rattle.apdu_writing.specs.Quill.{quill, far, least, behind, Put, spent}
 
 -- ---- places
 
@@ -39,3 +39,9 @@ module _ (fine : Bool) {r x : Bool} (e : r ≡ x) where
 
   pub both_so : not (fine && r) ≡ false → (fine && x) ≡ true
   both_so h = ap (λ (b : Bool). fine && b) (sym e) ∙ not-false (fine && r) h
+
+-- ---- spend
+
+pub spent_all : (n : ℕ) (c : Quill) → c.room < n → quill c.at 0 c.ok ≡ spent n c
+unfolding spent
+spent_all n c h = ap (λ (k : ℕ). quill c.at k c.ok) (omega arith)

@@ -1,4 +1,4 @@
--- The return status: one row, one law for each way out; and the rows in turn.
+-- The return status: checks in a row, a row that was looked up, and the rows in turn. What one row answers is the line of `get_fault` or `set_fault` itself.
 -- Assumes nothing.
 use Prim.Native.Nat.{ℕ, suc, ◌+◌, ◌-◌, ◌*◌, ◌≤◌, ◌<◌}
 use mathlib.Core.Path.{◌≡◌, refl, ap, sym, ◌∙◌}

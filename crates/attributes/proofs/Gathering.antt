@@ -7,11 +7,14 @@ use mathlib.Core.List.{List, [], ◌∷◌, ◌++◌, append_assoc, append-nil}
 use native.Mathlib.Omega.{arith}
 use native.Mathlib.Numerals.{add-one}
 use lib.ListN.{length, take, drop, set, length-set, length-append, length-drop}
-use lib.Seq.{length-take-le, take-suc-set, take_at}
+use lib.Seq.{length-take-le, take-suc-set, take_at, take_all}
+use borrow.Author.Tests.{le-leb}
 use borrow.Rule.Slice.PartMut.{post_of, put_mid, Post-is}
 use Rattle.refusals.specs.Check.{pick}
-use Rattle.bits.specs.Bits.{field, read_field}
-use Rattle.bits.proofs.Laws.{field_lt}
+use Rattle.bits.specs.Bits.{Octets, field, read_field}
+use Rattle.bits.specs.Strings.{is_inside, string_at, copy_fits, copy_string}
+use Rattle.bits.proofs.Laws.{field_lt, below_drop, below_take}
+use Rattle.bits.proofs.Aligned.{string_octets}
 use Rattle.directory.specs.declared.Row.{Row}
 use Rattle.directory.specs.Directory.{area_octets, row_sound, sound_directory, row_of}
 use Rattle.directory.proofs.Looking.{sound_row, inside_area, row_short}
@@ -24,6 +27,21 @@ use Rattle.attributes.proofs.Faults.{ids_more, ids_none, ids_all}
 pub seven_is : (s : List ℕ) (at : ℕ) {v : ℕ} → v ≡ read_field s at 7 → (v ≡ field s at 7) × (v < 128)
 unfolding read_field
 seven_is s at e = (e, rw e (field_lt s at 7))
+
+-- ---- a part of an area
+
+module _ (area out : List ℕ) (start n at : ℕ) (o : Octets area) (inside : start + n ≤ length area) (room : at + n ≤ length out) where
+  pub part_copied : copy_string (take (start + n - start) (drop start area)) 0 n out at ≡ take at out ++ (take n (drop start area) ++ drop (at + n) out)
+  unfolding copy_string copy_fits is_inside
+  part_copied =
+      let k : start + n - start ≡ n = omega arith in
+      let z : 0 + n - 0 ≡ n = omega arith in
+      let l = take n (drop start area) in
+      let m : length l ≡ n = length-take-le n (drop start area) (omega (arith, length-drop start area)) in
+      let a : n ≤ length l = omega arith in
+      let e : string_at l 0 n ≡ l = sym (string_octets l 0 n (below_take n (below_drop start o)) (omega arith)) ∙ ap (λ (i : ℕ). take i l) z ∙ take_all n l (omega arith) in
+      let f : 0 + 8 * n ≤ 8 * length l = omega arith in
+      rw (k, le-leb (0 + 8 * n) (8 * length l) f, le-leb (at + n) (length out) room, e)
 
 -- ---- the value of a row
 
@@ -45,6 +63,21 @@ value_put f w row out at {area} {part} {r} a p e =
     let n : row.start + row.length - row.start ≡ row.length = omega arith in
     let q : post_of at (at + row.length - at) out ≡ drop (at + row.length) out = Post-is at (at + row.length) out (omega arith) in
     e ∙ ap (λ (l : List ℕ). take at out ++ (part ++ l)) q ∙ ap (λ (l : List ℕ). take at out ++ (l ++ drop (at + row.length) out)) (p ∙ rw (n, a))
+
+-- a part of its area, copied to its place
+pub value_copied : (f w : List ℕ) (row : Row) (out : List ℕ) (at : ℕ) {area r : List ℕ} → Octets f → Octets w → row.start + row.length ≤ area_octets (length f) (length w) row
+    → at + row.length ≤ length out → area ≡ pick row.writable w f → r ≡ copy_string (take (row.start + row.length - row.start) (drop row.start area)) 0 row.length out at
+    → r ≡ take at out ++ (value_of f w row ++ drop (at + row.length) out)
+unfolding value_of
+value_copied f w row out at {area} {r} of ow inside room a e = e ∙ by row.writable inside a
+  where
+    copied : List ℕ → List ℕ
+    copied l = copy_string (take (row.start + row.length - row.start) (drop row.start l)) 0 row.length out at
+
+    by : (p : Bool) → row.start + row.length ≤ pick p (length w) (length f) → area ≡ pick p w f
+        → copied area ≡ take at out ++ (take row.length (drop row.start (pick p w f)) ++ drop (at + row.length) out)
+    by true i a = ap copied a ∙ part_copied w out row.start row.length at ow i room
+    by false i a = ap copied a ∙ part_copied f out row.start row.length at of i room
 
 -- ---- one row more
 

@@ -22,7 +22,8 @@ fn put_value(row: Row, factory: &[u8], writable: &[u8], out: &mut [u8], at: usiz
     ensures { out.new ≡ take at out.old ++ (value_of factory.now writable.now row ++ drop (at + row.length) out.old) }
 {
     let area = if row.writable { writable } else { factory };
-    out[at..at + row.length].copy_from_slice(&area[row.start..row.start + row.length]);
+    let part = &area[row.start..row.start + row.length];
+    let _ = bits::copy_string(part, 0, row.length, out, at);
 }
 
 // The row of an id.

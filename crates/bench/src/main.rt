@@ -16,6 +16,7 @@ const BUFFER_OCTETS: usize = 65536;
 fn main(rt: HostRuntime) -> io::Result<()> {
     let mut input = [0u8; BUFFER_OCTETS];
     let mut run = Run::new();
+    run.put_heading();
     let mut reader = rt.reader();
     // A proved loop has to end, so the loop counts its turns up to a number that no run uses up.
     for _ in 0..u64::MAX {

@@ -6,18 +6,23 @@ use refusals::Refusal;
 use std::io;
 
 // Text that is not yet written: the octets of `text` in front of `place`.
-#[derive(Drop)]
+#[derive(Clone, Copy)]
 pub struct Printer {
     text: [u8; BUFFER_OCTETS],
     place: usize,
 }
 
 impl Printer {
-    // With the heading as its text.
     pub(crate) fn new() -> Printer {
-        let mut text = [0u8; BUFFER_OCTETS];
-        let place = bench_lines::append_heading(&mut text, 0).unwrap_or(0);
-        Printer { text, place }
+        Printer {
+            text: [0; BUFFER_OCTETS],
+            place: 0,
+        }
+    }
+
+    // Puts the heading in place of the text.
+    pub(crate) fn put_heading(&mut self) {
+        self.place = bench_lines::append_heading(&mut self.text, 0).unwrap_or(0);
     }
 
     // Writes the text to standard output.

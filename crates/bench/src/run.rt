@@ -8,7 +8,7 @@ use std::io;
 
 // What goes on from line to line: the table with its store, the octets of a line that has not ended, the lines counted, the totals, and the text of
 // the output; and the buffers for an LSDU and a message.
-#[derive(Drop)]
+#[derive(Clone, Copy)]
 pub struct Run {
     table: Table,
     store: [u8; STORE_OCTETS],
@@ -41,6 +41,11 @@ impl Run {
         }
     }
 
+    // The heading stands in front of all lines.
+    pub(crate) fn put_heading(&mut self) {
+        self.printer.put_heading();
+    }
+
     // A line has ended: it is joined, counted and printed.
     fn end_line(&mut self, rt: &impl Print) -> io::Result<()> {
         let columns = bench_joining::take_line(
@@ -61,13 +66,13 @@ impl Run {
 
     // Takes the octets of `input`: each line feed ends a line, and what stands behind the last one is kept.
     pub(crate) fn take(&mut self, rt: &impl Print, input: &[u8]) -> io::Result<()> {
-        for part in input.split_inclusive(|c| *c == b'\n') {
-            let line = part.strip_suffix(b"\n");
-            self.held = bench_lines::keep_part(line.unwrap_or(part), &mut self.line, self.held);
-            if line.is_some() {
-                self.end_line(rt)?;
-            }
+        let mut rest = input;
+        while let Some((line, behind)) = bench_lines::first_line(rest) {
+            self.held = bench_lines::keep_part(line, &mut self.line, self.held);
+            self.end_line(rt)?;
+            rest = behind;
         }
+        self.held = bench_lines::keep_part(rest, &mut self.line, self.held);
         Ok(())
     }
 

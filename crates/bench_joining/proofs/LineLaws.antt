@@ -10,8 +10,9 @@ use lib.Dec.{leb}
 use Rattle.refusals.specs.Check.{pick, Answer, refused, accepted}
 use Rattle.slots.specs.declared.Table.{Table}
 use Rattle.slots.specs.Slots.{held_for}
-use Rattle.std.specs.Prelude.{Result, Ok, Err}
+use Rattle.std.specs.Prelude.{Result, Ok, Err, IsErrAnd, MatchResult}
 use Rattle.refusals.specs.declared.Refusal.{Refusal}
+use Rattle.refusals.specs.Refusal.{number_of}
 use Rattle.reassembly.specs.declared.Accepted.{Accepted}
 use Rattle.reassembly.specs.Checks.{fragment_in}
 use Rattle.bench_lines.specs.Numerals.{octets_of}
@@ -20,17 +21,25 @@ use Rattle.bench_lines.specs.declared.Line.{Line}
 use Rattle.bench_lines.specs.declared.LineRefusal.{LineRefusal}
 use Rattle.bench_lines.proofs.Spelling.{length_octets}
 use Rattle.bench_joining.specs.declared.Columns.{Columns}
-use Rattle.bench_joining.specs.Columns.{columns_of, refused_with}
+use Rattle.bench_joining.specs.Columns.{numbered, columns_of, refused_with}
 use Rattle.bench_joining.specs.Joined.{columns_after, LsduJoined, LineJoined, lsdu_of, LineTaken}
 
 -- ---- an LSDU
 
 -- what the header tells, and the octets held for its pair, make the columns
-pub shown_is : (answer : Result Accepted Refusal) (lid : ℕ) (lsdu : List ℕ) (after : Table) {number payload held : ℕ} {r : Columns}
+pub shown_is : (answer : Result Accepted ℕ) (lid : ℕ) (lsdu : List ℕ) (after : Table) {number payload held : ℕ} {r : Columns}
     → number ≡ (fragment_in lsdu).number → payload ≡ (fragment_in lsdu).octets → held ≡ held_for after lid number → r ≡ columns_of answer held payload
     → r ≡ columns_after answer lid lsdu after
 unfolding columns_after
 shown_is answer lid lsdu after p q h e = e ∙ rw (h, p, q) refl
+
+-- what is shown of an answer whose refusal `map_err` has turned into its number
+pub numbers_shown : (call : Result Accepted Refusal) (answer : Result Accepted ℕ) (lid : ℕ) (lsdu : List ℕ) (after : Table) {r : Columns}
+    → MatchResult call (λ taken. answer ≡ Ok taken) (λ refusal. IsErrAnd answer (λ number. number ≡ number_of refusal))
+    → r ≡ columns_after answer lid lsdu after → r ≡ columns_after (numbered call) lid lsdu after
+numbers_shown (Ok taken) answer lid lsdu after e s = s ∙ ap (λ (x : Result Accepted ℕ). columns_after x lid lsdu after) e
+numbers_shown (Err refusal) (Ok taken) lid lsdu after e s = elim e [ ]
+numbers_shown (Err refusal) (Err number) lid lsdu after e s = s ∙ ap (λ (n : ℕ). columns_after (Err n) lid lsdu after) e
 
 -- ---- a line
 

@@ -18,10 +18,15 @@ refused_with number octets = record { answer = shown.Refused number; octets = oc
 unfoldable pub refused_columns : (number held : ℕ) → Columns
 refused_columns number held = pick (ltb number 7) (refused_with number 0) (refused_with number held)
 
--- the columns of an answer, where so many octets are held for the pair after the call, and the fragment has so many of payload
-unfoldable pub columns_of : Result Accepted Refusal → (held payload : ℕ) → Columns
+-- a fragment call's answer, with 01's number in place of its refusal
+abbrev pub numbered : Result Accepted Refusal → Result Accepted ℕ
+numbered (Ok taken) = Ok taken
+numbered (Err refusal) = Err (number_of refusal)
+
+-- the columns of an answer, which may refuse with any number, where so many octets are held for the pair after the call, and the fragment has so many of payload
+unfoldable pub columns_of : Result Accepted ℕ → (held payload : ℕ) → Columns
 columns_of (Ok (answer.Held octets dropped)) held payload =
     record { answer = shown.Held; octets = octets; dropped = dropped; accepted = payload; delivered = 0 }
 columns_of (Ok (answer.Whole octets dropped)) held payload =
     record { answer = shown.Whole; octets = octets; dropped = dropped; accepted = payload; delivered = octets }
-columns_of (Err refusal) held payload = refused_columns (number_of refusal) held
+columns_of (Err number) held payload = refused_columns number held

@@ -12,18 +12,18 @@ use Rattle.reassembly.specs.Engine.{FragmentGives}
 use Rattle.bench_lines.specs.Numerals.{octets_of}
 use Rattle.bench_lines.specs.Line.{Fields, lsdu_text, read_line, lsdu_after}
 use Rattle.bench_joining.specs.declared.Columns.{Columns}
-use Rattle.bench_joining.specs.Columns.{columns_of, refused_with}
+use Rattle.bench_joining.specs.Columns.{numbered, columns_of, refused_with}
 
 -- the columns of an answer to an LSDU, with the octets held for the pair by the table after the call; message number and octets of payload are 0 and 0
 -- where its header is not valid
-unfoldable pub columns_after : Result Accepted Refusal → (lid : ℕ) → (lsdu : List ℕ) → Table → Columns
+unfoldable pub columns_after : Result Accepted ℕ → (lid : ℕ) → (lsdu : List ℕ) → Table → Columns
 columns_after answer lid lsdu after = columns_of answer (held_for after lid (fragment_in lsdu).number) (fragment_in lsdu).octets
 
 -- an LSDU is handed on: the call's contract holds of some call, whose answer the columns r show
 pub record LsduJoined (lid tick : ℕ) (lsdu : List ℕ) (table : Table) (store output : List ℕ) (r : Columns) (table' : Table) (store' output' : List ℕ) : Type 0 where
   pub call : Result Accepted Refusal
   pub gives : FragmentGives lid tick lsdu table store output call table' store' output'
-  pub columns_are : r ≡ columns_after call lid lsdu table'
+  pub columns_are : r ≡ columns_after (numbered call) lid lsdu table'
 
 -- a line that is not read: its refusal is shown, and nothing has changed
 pub record LineRefused (number : ℕ) (table : Table) (store output : List ℕ) (r : Columns) (table' : Table) (store' output' : List ℕ) : Type 0 where

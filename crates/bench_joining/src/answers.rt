@@ -1,6 +1,5 @@
 // What a line of output shows of a fragment call's answer.
 ghost use Rattle.std.specs.Prelude.{◌≡◌};
-ghost use Rattle.refusals.specs.Refusal.{number_of};
 ghost use Rattle.bench_joining.specs.Columns.{columns_of, refused_columns, refused_with};
 
 use crate::Columns;
@@ -11,9 +10,9 @@ use refusals::Refusal;
 // The first refusal of a fragment that has a pair: from there on the octets held for the pair are shown.
 const FIRST_WITH_PAIR: Refusal = Refusal::NoPayload;
 
-// The columns of an answer, where `held` octets are held for the pair after the call, and the fragment has `payload` octets.
+// The columns of an answer, whatever number it refuses with, where `held` octets are held for the pair after the call, and the fragment has `payload` octets.
 #[tactic(auto, unfolding(crate::specs::Columns::columns_of))]
-pub(crate) fn columns(answer: Result<Accepted, Refusal>, held: usize, payload: usize) -> Columns
+pub(crate) fn columns(answer: Result<Accepted, u8>, held: usize, payload: usize) -> Columns
     ensures { result ≡ columns_of answer held payload }
 {
     match answer {
@@ -31,15 +30,14 @@ pub(crate) fn columns(answer: Result<Accepted, Refusal>, held: usize, payload: u
             accepted: payload as u64,
             delivered: octets as u64,
         },
-        Err(refusal) => refused(refusal, held),
+        Err(number) => refused(number, held),
     }
 }
 
 #[tactic(auto, using(std::proofs::lemmas::Bool::Decides::nat_tests), unfolding(crate::specs::Columns::refused_columns))]
-fn refused(refusal: Refusal, held: usize) -> Columns
-    ensures { result ≡ refused_columns (number_of refusal) held }
+fn refused(number: u8, held: usize) -> Columns
+    ensures { result ≡ refused_columns number held }
 {
-    let number = u8::from(refusal);
     let has_pair = u8::from(FIRST_WITH_PAIR) <= number;
     no_octets(number, if has_pair { held } else { 0 })
 }

@@ -6,11 +6,10 @@ use crate::Columns;
 use crate::answers::{columns, no_octets};
 use bench_lines::Line;
 use reassembly::Accepted;
-use refusals::Refusal;
 use slots::Table;
 
-// The columns of an answer to a fragment, where `after` is the table after the call.
-pub fn shown(answer: Result<Accepted, Refusal>, lid: u32, lsdu: &[u8], after: Table) -> Columns
+// The columns of an answer to a fragment, whatever number it refuses with, where `after` is the table after the call.
+pub fn shown(answer: Result<Accepted, u8>, lid: u32, lsdu: &[u8], after: Table) -> Columns
     ensures { result ≡ columns_after answer lid lsdu.now after }
 {
     // A header that is not valid has no number: what is shown is then that of number 0 and no payload.
@@ -34,7 +33,7 @@ fn join(
     ensures { LsduJoined lid tick lsdu.now table.old store.old output.old result table.new store.new output.new }
 {
     let answer = reassembly::fragment(lid, tick, lsdu, table, store, output);
-    shown(answer, lid, lsdu, *table)
+    shown(answer.map_err(u8::from), lid, lsdu, *table)
 }
 
 // The first `n` octets, or all where there are fewer.

@@ -2,12 +2,14 @@
 -- Assumes nothing.
 use mathlib.Core.Path.{◌≡◌, refl, ap, sym, ◌∙◌}
 use mathlib.Core.Bool.{Bool, true, false}
-use Prim.Native.Nat.{ℕ, suc, ◌+◌, ◌≤◌, ◌<◌}
+use Prim.Native.Nat.{ℕ, suc, ◌+◌, ◌-◌, ◌≤◌, ◌<◌}
 use mathlib.Core.List.{List, [], ◌∷◌, ◌++◌, append_assoc}
 use native.Mathlib.Omega.{arith}
+use lib.Dec.{leb}
 use lib.ListN.{length, get_or, take, drop, set, length-append, length-drop}
-use lib.Seq.{length-take-le, take-length, take_at, drop_at, drop-drop, drop-cons, set_at}
-use borrow.Author.Tests.{leb-true}
+use lib.Seq.{length-take-le, take-length, take_at, drop_at, drop-drop, drop-cons, set_at, paste}
+use borrow.Author.Tests.{lt-leb, leb-true}
+use Rattle.refusals.proofs.Tests.{leb_same}
 use Rattle.refusals.specs.Check.{Answer, refused, accepted}
 use borrow.Rule.Slice.PartMut.{put_mid}
 use Rattle.std.proofs.lemmas.Slice.{put_mid-paste}
@@ -60,6 +62,11 @@ word_placed out at s {part} {k} p q = record {
   place = refl;
   octets = put_mid-paste at k out part s (length s) p q refl ∙ rw take-length (append_assoc (take at out) s (drop (at + length s) out));
 }
+
+-- copied octet by octet
+pub word_copied : (out : List ℕ) (at : ℕ) (s : List ℕ) {e : List ℕ} {k : ℕ} → e ≡ paste out at s k → k ≡ length s → Placed out at s e (at + length s)
+unfolding written
+word_copied out at s {e} {k} p q = record { place = refl; octets = p ∙ rw (q, take-length) (append_assoc (take at out) s (drop (at + length s) out)) }
 
 pub length_number : (n end : ℕ) → length (number_text n end) ≡ width n + 1
 unfolding number_text decimal_before
@@ -188,3 +195,14 @@ pub length_totals : (t : Totals) {w v u s : ℕ} → w ≡ width t.accepted → 
     → w + v + u + s + 36 ≡ length (totals_text t)
 unfolding totals_text
 length_totals t p q r s = simp (length-append, length_named) (omega arith)
+
+-- ---- room, with no sum
+
+module _ (room at octets : ℕ) where
+  pub too_long : room < octets → false ≡ has_room room at octets
+  unfolding has_room
+  too_long h = sym (lt-leb (at + octets) room (omega arith))
+
+  pub starts_inside : octets ≤ room → leb at (room - octets) ≡ has_room room at octets
+  unfolding has_room
+  starts_inside h = leb_same at (room - octets) (at + octets) room (λ k. omega arith) (λ k. omega arith)

@@ -43,7 +43,9 @@ fn octet_of(high: u8, low: u8) -> u8
     (digit_value(high) * 16 + digit_value(low)) as u8
 }
 
-// Writes the octets that hex digits spell to the front of `out`.
+// Writes the octets that hex digits spell to the front of `out`. Not inlined: as a call's arguments the two slices are known not to overlap, so that several
+// octets are computed at once.
+#[inline(never)]
 pub(crate) fn put_octets(s: &[u8], out: &mut [u8])
     requires { (length s.now % 2 ≡ 0) × (length s.now / 2 ≤ length out.old) × (all_digits 16 s.now ≡ true) }
     ensures { out.new ≡ octets_of s.now ++ drop (length s.now / 2) out.old }

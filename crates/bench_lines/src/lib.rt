@@ -66,5 +66,5 @@ pub struct Totals {
 
 pub use hex::read_hex;
 pub use recording::read_line;
-pub use splitting::{keep_part, line_end};
+pub use splitting::{first_line, keep_part, line_end};
 pub use text::{append_answer, append_heading, append_totals};

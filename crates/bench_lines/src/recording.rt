@@ -37,10 +37,11 @@ fn are_fields(lid: &[u8], tick: &[u8], lsdu: &[u8]) -> bool
 fn has_form(line: &[u8]) -> bool
     ensures { result ≡ has_form line.now }
 {
+    if LONGEST_LINE < line.len() || find(line, 0, SPACE) != LID_DIGITS {
+        return false;
+    }
     let second = find(line, TICK_PLACE, SPACE);
-    line.len() <= LONGEST_LINE
-        && find(line, 0, SPACE) == LID_DIGITS
-        && second < line.len()
+    second < line.len()
         && are_fields(
             &line[..LID_DIGITS],
             &line[TICK_PLACE..second],

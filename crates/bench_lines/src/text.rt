@@ -21,9 +21,10 @@ fn put_word(out: &mut [u8], at: usize, word: &[u8]) -> usize
     requires { at + length word.now ≤ length out.old }
     ensures { Placed out.old at word.now out.new result }
 {
-    let next = at + word.len();
-    out[at..next].copy_from_slice(word);
-    next
+    for k in 0..word.len() {
+        out[at + k] = word[k];
+    }
+    at + word.len()
 }
 
 // Writes a number in decimal and the character behind it.

@@ -1,7 +1,7 @@
 -- Strings and windows that stand on octets: what is read and written there are the octets themselves.
 -- Assumes nothing.
 use mathlib.Core.Path.{◌≡◌, refl, ap, sym, ◌∙◌}
-use mathlib.Core.Bool.{Bool, true, ◌&&◌}
+use mathlib.Core.Bool.{Bool, true, false, ◌&&◌}
 use Prim.Native.Nat.{ℕ, zero, suc, ◌+◌, ◌*◌, ◌/◌, ◌%◌, ◌^◌, ◌≤◌, ◌<◌, ◌-◌}
 use mathlib.Core.List.{List, [], ◌∷◌, ◌++◌, append-nil}
 use native.Mathlib.Omega.{arith}
@@ -16,9 +16,15 @@ use Rattle.bits.specs.Strings.{is_inside, string_at, same_octets, same_string}
 use Rattle.bits.proofs.Laws.{below_nil, below_cons, below_append, below_take, below_drop, field_octet, field_sub, length_bits, bits_append, take_bits, drop_bits, octets_bits}
 use Rattle.bits.proofs.Window.{bits_bytes, window_more, left_all, left_less, left_none}
 use Rattle.bits.proofs.Outcomes.{read_narrow, write_whole}
-use Rattle.bits.proofs.Strings.{Copied, Written, length_string, string_small}
+use Rattle.bits.proofs.Strings.{Copied, Written, length_string, string_small, string_snoc}
 
 -- ---- one octet
+
+-- octet k of a string that starts at an octet
+pub aligned_octet : (s : List ℕ) (first k : ℕ) {x : ℕ} → Octets s → x ≡ get_or s (first + k) 0 → x ≡ field s (8 * first + 8 * k) 8
+aligned_octet s first k h e =
+    let i : 8 * (first + k) ≡ 8 * first + 8 * k = omega arith in
+    e ∙ sym (field_octet s (first + k) (h.each (first + k))) ∙ ap (λ (j : ℕ). field s j 8) i
 
 -- an octet read as a field
 pub read_octet : (s : List ℕ) (at w : ℕ) {v : ℕ} → w ≡ 8 → at % 8 ≡ 0 → v ≡ get_or s (at / 8) 0 → v < 256 → v ≡ read_field s at w
@@ -143,6 +149,49 @@ pub same_parts : (s : List ℕ) (first : ℕ) (t : List ℕ) (other n : ℕ) →
     → pointwise eqb (take (first + n - first) (drop first s)) (take (other + n - other) (drop other t)) ≡ same_octets (string_at s (8 * first) n) (string_at t (8 * other) n)
 same_parts s first t other n h k f g =
     rw (string_octets s first n h f, string_octets t other n k g) (same_pointwise (string_at s (8 * first) n) (string_at t (8 * other) n))
+
+same_snoc : (l m : List ℕ) (a b : ℕ) → length l ≡ length m → same_octets (l ++ (a ∷ [])) (m ++ (b ∷ [])) ≡ (same_octets l m && eqb a b)
+unfolding same_octets
+same_snoc [] [] a b e = unit (eqb a b)
+  where
+    unit : (p : Bool) → (p && true) ≡ p
+    unit true = refl
+    unit false = refl
+same_snoc [] (y ∷ m) a b e = absurd (omega arith)
+same_snoc (x ∷ l) [] a b e = absurd (omega arith)
+same_snoc (x ∷ l) (y ∷ m) a b e = ap (λ (p : Bool). eqb x y && p) (same_snoc l m a b (omega arith)) ∙ regroup (eqb x y) (same_octets l m) (eqb a b)
+  where
+    regroup : (p q r : Bool) → (p && (q && r)) ≡ ((p && q) && r)
+    regroup true q r = refl
+    regroup false q r = refl
+
+module _ (s : List ℕ) (first : ℕ) (t : List ℕ) (other : ℕ) where
+  -- the first k octets are the same
+  unfoldable pub Same : ℕ → Bool
+  Same k = same_octets (string_at s (8 * first) k) (string_at t (8 * other) k)
+
+  pub same_none : true ≡ Same 0
+  unfolding Same string_at same_octets
+  same_none = refl
+
+  pub same_more : (k : ℕ) {p : Bool} {x y : ℕ} → Octets s → Octets t → p ≡ Same k → x ≡ get_or s (first + k) 0 → y ≡ get_or t (other + k) 0
+      → (p && eqb x y) ≡ Same (k + 1)
+  unfolding Same
+  same_more k {p} {x} {y} h i e f g =
+      let a = field s (8 * first + 8 * k) 8 in
+      let b = field t (8 * other + 8 * k) 8 in
+      let l = string_at s (8 * first) k in
+      let m = string_at t (8 * other) k in
+      ap (λ (q : Bool). q && eqb x y) e
+      ∙ ap (λ (v : ℕ). same_octets l m && eqb v y) (aligned_octet s first k h f)
+      ∙ ap (λ (v : ℕ). same_octets l m && eqb a v) (aligned_octet t other k i g)
+      ∙ sym (same_snoc l m a b (length_string s (8 * first) k ∙ sym (length_string t (8 * other) k)))
+      ∙ ap (λ (r : List ℕ). same_octets r (m ++ (b ∷ []))) (sym (string_snoc s (8 * first) k))
+      ∙ ap (λ (r : List ℕ). same_octets (string_at s (8 * first) (k + 1)) r) (sym (string_snoc t (8 * other) k))
+
+  pub same_whole : (k n : ℕ) {p : Bool} → p ≡ Same k → k ≡ n → p ≡ same_octets (string_at s (8 * first) n) (string_at t (8 * other) n)
+  unfolding Same
+  same_whole k n e f = rw f at e
 
 pub same_aligned : (s : List ℕ) (start : ℕ) (t : List ℕ) (at n : ℕ) {p : Bool} → start % 8 + at % 8 ≡ 0 → is_inside (length s) start n ≡ true → is_inside (length t) at n ≡ true
     → p ≡ same_octets (string_at s (8 * (start / 8)) n) (string_at t (8 * (at / 8)) n) → p ≡ same_string s start t at n

@@ -119,6 +119,10 @@ module _ (s : List ℕ) (start : ℕ) (out : List ℕ) (at : ℕ) where
       regroup : (p l : List ℕ) (x : ℕ) (ys : List ℕ) → (p ++ l) ++ (x ∷ ys) ≡ p ++ ((l ++ (x ∷ [])) ++ ys)
       regroup p l x ys = append_assoc p l (x ∷ ys) ∙ ap (λ (r : List ℕ). p ++ r) (sym (append_assoc l (x ∷ []) ys))
 
+  pub copied_all : (k n : ℕ) {t : List ℕ} → t ≡ Copied s start out at k → k ≡ n → t ≡ take at out ++ (string_at s start n ++ drop (at + n) out)
+  unfolding Copied
+  copied_all k n e f = rw f at e
+
   module _ (n : ℕ) where
     pub copy_outside : is_inside (length s) start n ≡ false → (false ≡ copy_fits s start n out at) × (out ≡ copy_string s start n out at)
     unfolding copy_fits copy_string
@@ -197,6 +201,10 @@ module _ (s : List ℕ) (start : ℕ) where
     pub clear_outside : is_inside (length s) start n ≡ false → false ≡ first_bits_clear s start n
     unfolding first_bits_clear
     clear_outside h = simp h
+
+    pub clear_other : (k : ℕ) {x : ℕ} → k < n → x ≡ field s (start + 8 * k) 8 → 127 < x → false ≡ first_bits_clear s start n
+    unfolding first_bits_clear
+    clear_other k h e g = sym (and_right (is_inside (length s) start n) (clear_not n k h (omega arith)))
 
     pub clear_decided : is_inside (length s) start n ≡ true → {r : Bool}
         → MatchBool r (AllWithin (λ k. octet_at s start k < 128) (range_with_len 0 n) 0 (length (range_with_len 0 n)))

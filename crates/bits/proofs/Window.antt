@@ -157,6 +157,9 @@ one_shifted k h = shl_exact {a = 1} 1 k 64 (omega arith) (omega arith) ∙ one-m
 pub low_mask : (v k : ℕ) → k < 64 → bit_and v (1 * 2 ^ k % 2 ^ 64 - 1) ≡ v % 2 ^ k
 low_mask v k h = rw (one_shifted k h) (and_mask v k)
 
+pub low_mask_pos : (k : ℕ) → k < 64 → 1 ≤ 1 * 2 ^ k % 2 ^ 64
+low_mask_pos k h = rw (one_shifted k h) (pow_pos k)
+
 -- the low bits of a field, shifted to their place, stay below 2^55
 module _ (w over v : ℕ) (narrow : w ≤ 48) (near : over ≤ 7) where
   field_low : v % 2 ^ w < 2 ^ w

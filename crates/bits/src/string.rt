@@ -21,12 +21,14 @@ fn string_octet(s: &[u8], first: usize, skip: usize, k: usize) -> u8
     field_in(s, first + k, skip, 8) as u8
 }
 
-// Copies the `n` octets from octet `first` of `s` on to `out` from octet `at` on.
+// Copies the `n` octets from octet `first` of `s` on to `out` from octet `at` on. One by one: `copy_from_slice` would have the archive ask for `memmove`.
 fn copy_octets(s: &[u8], first: usize, n: usize, out: &mut [u8], at: usize)
     requires { (first + n ≤ length s.now) × (at + n ≤ length out.old) }
     ensures { out.new ≡ take at out.old ++ (string_at s.now (8 * first) n ++ drop (at + n) out.old) }
 {
-    out[at..at + n].copy_from_slice(&s[first..first + n]);
+    for k in 0..n {
+        out[at + k] = s[first + k];
+    }
 }
 
 // Whether the `n` octets from octet `first` of `s` on are those from octet `other` of `t` on. It goes to the end, so that it compares many at once.
@@ -34,7 +36,11 @@ fn same_octets(s: &[u8], first: usize, t: &[u8], other: usize, n: usize) -> bool
     requires { (first + n ≤ length s.now) × (other + n ≤ length t.now) }
     ensures { result ≡ same_octets (string_at s.now (8 * first) n) (string_at t.now (8 * other) n) }
 {
-    s[first..first + n] == t[other..other + n]
+    let mut same = true;
+    for k in 0..n {
+        same &= s[first + k] == t[other + k];
+    }
+    same
 }
 
 // Copies the `n` octets from bit place `start` of `s` to `out` from octet `at` on. False, and nothing copied, where either part is not inside.

@@ -10,7 +10,7 @@ pub(crate) fn front(s: &[u8], n: usize) -> &[u8] {
     s.get(..n).unwrap_or(s)
 }
 
-#[derive(Drop)]
+#[derive(Clone, Copy)]
 pub struct Page {
     pub text: [u8; 65536],
     pub place: usize,

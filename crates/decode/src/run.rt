@@ -9,7 +9,7 @@ const LONGEST_LINE: usize = 2048;
 
 // What goes on from line to line: the lines counted, the totals, the first `held` characters of a line that has not ended, the octets of the last line and
 // of its message written again, the text not yet written.
-#[derive(Drop)]
+#[derive(Clone, Copy)]
 pub struct Run {
     pub lines: u64,
     pub messages: u64,
@@ -85,20 +85,20 @@ impl Run {
 
     // Takes octets of the input: each line feed ends a line, and what stands behind the last one is held.
     fn take(&mut self, rt: &impl Print, input: &[u8]) -> io::Result<()> {
-        for part in input.split_inclusive(|c| *c == b'\n') {
-            let line = part.strip_suffix(b"\n");
-            self.held = bench_lines::keep_part(line.unwrap_or(part), &mut self.line, self.held);
-            if line.is_some() {
-                self.end_line(rt)?;
-            }
+        let mut rest = input;
+        while let Some((line, behind)) = bench_lines::first_line(rest) {
+            self.held = bench_lines::keep_part(line, &mut self.line, self.held);
+            self.end_line(rt)?;
+            rest = behind;
         }
+        self.held = bench_lines::keep_part(rest, &mut self.line, self.held);
         Ok(())
     }
 
     // The heading, a line for each line of standard input, and the totals. A last line without line feed counts if it is not empty. A failed read or write
     // ends the run with its error.
     pub(crate) fn answer_all(
-        mut self,
+        &mut self,
         rt: &(impl Input + Print),
         input: &mut [u8],
     ) -> io::Result<()> {

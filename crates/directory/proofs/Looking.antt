@@ -1,6 +1,6 @@
 -- Laws of looking up in rows by value, and of the rows that are gathered from a lent list.
 -- Assumes nothing.
-use mathlib.Core.Path.{◌≡◌, refl, ap, sym, ◌∙◌}
+use mathlib.Core.Path.{◌≡◌, refl, ap, sym, ◌∙◌, subst}
 use mathlib.Core.Bool.{Bool, true, false, ◌&&◌}
 use Prim.Native.Nat.{ℕ, zero, suc, min, ◌+◌, ◌-◌, ◌≤◌, ◌<◌}
 use mathlib.Core.List.{List, [], ◌∷◌, ◌++◌, append_assoc, append-nil}
@@ -9,7 +9,7 @@ use native.Mathlib.Numerals.{add-one}
 use native.Mathlib.Omega.{arith}
 use lib.Dec.{ltb, leb}
 use lib.ListN.{length, length-set, get_or, take, drop as drop_l, set, replicate, drop_of_length-le, get_or-eq_default}
-use lib.Seq.{take-nil, take-suc-set, take-append_seam}
+use lib.Seq.{take-nil, take-suc-set, take-append_seam, length-take-le, paste, paste-suc}
 use borrow.Author.Tests.{lt-ltb, le-ltb, ltb-true, ltb-false, le-leb, lt-leb, leb-true, leb-false}
 use denote.Ref.{Bor}
 use Rattle.std.proofs.Common.{◌⊎◌, inl, inr, MatchOption, Option, Some, None}
@@ -20,7 +20,8 @@ use Rattle.refusals.specs.Check.{first_of, decided, refused, accepted}
 use Rattle.refusals.proofs.Tests.{by_cases}
 use Rattle.directory.specs.declared.Row.{Row}
 use Rattle.directory.specs.declared.Directory.{Directory}
-use Rattle.directory.specs.Directory.{no_row, most_rows, area_octets, row_sound, each_sound, all_apart, sound_directory, index_of, known_in, row_of, first_row, finding, lookup_row, knowing}
+use Rattle.directory.specs.Directory.{no_row, most_rows, area_octets, row_sound, each_sound, all_apart, sound_directory, index_of, known_in, row_of, first_row, finding, lookup_row, LookedUp, knowing}
+use Rattle.directory.specs.Part.{PartOf}
 use Rattle.directory.specs.Gathered.{with_row, gathered_from, gathered, list_of}
 
 -- ---- soundness by value
@@ -165,7 +166,7 @@ with_full d r h = rw (le-ltb d.count 32 h)
 -- ---- what is gathered
 
 -- the first i rows are in place
-abbrev so_far : List Row → ℕ → Directory
+abbrev pub so_far : List Row → ℕ → Directory
 so_far list i = record { rows = list; count = i }
 
 take_all : (n : ℕ) (rs : List Row) → length rs ≤ n → take n rs ≡ rs
@@ -226,6 +227,18 @@ gathered_front rs =
     let d : drop_l (length rs) (replicate 32 no_row) ≡ [] = drop_of_length-le (replicate 32 no_row) {i = length rs} (omega arith) in
     rw (gathered_is rs, n, d) refl)
 
+-- one row more is stored
+pub stored_more : (list rs : List Row) {l : List Row} (i : ℕ) → l ≡ paste list 0 rs i → i < length list → i < length rs → set l i (get_or rs i no_row) ≡ paste list 0 rs (i + 1)
+stored_more list rs {l} i e h k =
+    let z : 0 + i ≡ i = omega arith in
+    rw (add-one, e) (subst (λ (j : ℕ). set (paste list 0 rs i) j (get_or rs i no_row) ≡ paste list 0 rs (suc i)) z (paste-suc list 0 rs i no_row (omega arith) k))
+
+-- and all that are kept
+pub gathered_stored : (rs : List Row) {list : List Row} (i : ℕ) → list ≡ paste (replicate 32 no_row) 0 rs i → i ≡ min (length rs) 32 → so_far list (min (length rs) 33) ≡ gathered rs
+gathered_stored rs i e f =
+    let z : 0 + min (length rs) 32 ≡ min (length rs) 32 = omega arith in
+    rw (e, f, z) (gathered_front rs)
+
 -- at most 32 rows are gathered as they are
 pub gathered_few : (rs : List Row) → length rs ≤ 32 → list_of (gathered rs) ≡ rs
 unfolding list_of
@@ -245,3 +258,41 @@ gathered_many f w rs h =
 pub unsound : (f w : ℕ) (rs : List Row) → 32 < length rs → sound_directory f w rs ≡ false
 unfolding sound_directory
 unsound f w rs h = simp (lt-leb (length rs) 32 h)
+
+-- so looking up in what is gathered is looking up in the list
+module _ (f w : ℕ) (rs : List Row) (id : ℕ) where
+  pub gathered_row : lookup_row f w (list_of (gathered rs)) id ≡ lookup_row f w rs id
+  unfolding lookup_row
+  gathered_row =
+      by_cases (leb (length rs) 32)
+      (λ t. ap (λ (l : List Row). lookup_row f w l id) (gathered_few rs (leb-true (length rs) 32 t)))
+      (λ t.
+      let h = leb-false (length rs) 32 t in
+      let u : sound_directory f w rs ≡ false = unsound f w rs h in
+      simp (gathered_many f w rs h, u))
+
+  pub gathered_knowing : knowing f w (list_of (gathered rs)) id ≡ knowing f w rs id
+  unfolding knowing first_of decided
+  gathered_knowing =
+      by_cases (leb (length rs) 32)
+      (λ t. ap (λ (l : List Row). knowing f w l id) (gathered_few rs (leb-true (length rs) 32 t)))
+      (λ t.
+      let h = leb-false (length rs) 32 t in
+      let u : sound_directory f w rs ≡ false = unsound f w rs h in
+      simp (gathered_many f w rs h, u))
+
+pub gathered_looked : (rs : List Row) (factory writable : Bor (List ℕ)) (id : ℕ) (r : Bor (List ℕ))
+    → LookedUp (list_of (gathered rs)) factory writable id r → LookedUp rs factory writable id r
+gathered_looked rs factory writable id r l = record { part = rw (gathered_row (length factory.now) (length writable.now) rs id) at l.part }
+
+-- ---- what a directory by value stands for, and the two areas
+
+pub count_is : (d : Directory) → d.count ≤ 32 → length d.rows ≡ 32 → length (list_of d) ≡ d.count
+count_is d few long = ap length (list_is d few) ∙ length-take-le d.count d.rows (omega arith)
+
+module _ (rows : List Row) (factory writable : Bor (List ℕ)) (id : ℕ) (r : Bor (List ℕ)) {row : Row} (is : row ≡ lookup_row (length factory.now) (length writable.now) rows id) where
+  pub looked_writable : row.writable ≡ true → PartOf writable row.start row.length r → LookedUp rows factory writable id r
+  looked_writable e p = record { part = rw (← is) (simp e p) }
+
+  pub looked_factory : row.writable ≡ false → PartOf factory row.start row.length r → LookedUp rows factory writable id r
+  looked_factory e p = record { part = rw (← is) (simp e p) }

@@ -68,14 +68,14 @@ fn row_sound(row: Row, factory: usize, writable: usize) -> bool
 fn share_octet(a: Row, b: Row) -> bool
     ensures { result ≡ share_octet a b }
 {
-    a.writable == b.writable
-        && a.length != 0
-        && b.length != 0
-        && if a.start <= b.start {
-            b.start - a.start < a.length
-        } else {
-            a.start - b.start < b.length
-        }
+    if a.writable != b.writable || a.length == 0 || b.length == 0 {
+        return false;
+    }
+    // A `return`: an `else` here made the test of all pairs a third dearer.
+    if a.start <= b.start {
+        return b.start - a.start < a.length;
+    }
+    a.start - b.start < b.length
 }
 
 #[tactic(auto, unfolding(crate::specs::Directory::clashes))]
@@ -202,7 +202,9 @@ pub fn gather(rows: &[Row]) -> Directory
 {
     let kept = rows.len().min(MOST_ROWS);
     let mut list = [NO_ROW; 32];
-    list[..kept].copy_from_slice(&rows[..kept]);
+    for i in 0..kept {
+        list[i] = rows[i];
+    }
     Directory {
         rows: list,
         count: rows.len().min(MOST_ROWS + 1),

@@ -26,7 +26,7 @@ use Rattle.bench_lines.specs.Text.{refused_word, answer_text, answer_line_text, 
 use Rattle.bench_lines.proofs.Decimal.{width_u64}
 use Rattle.bench_lines.proofs.Appending.{length_named, length_line}
 use Rattle.bench_joining.specs.declared.Columns.{Columns}
-use Rattle.bench_joining.specs.Columns.{columns_of, refused_columns, refused_with}
+use Rattle.bench_joining.specs.Columns.{numbered, columns_of, refused_columns, refused_with}
 use Rattle.bench_joining.specs.Joined.{columns_after, LineJoined, lsdu_of, LineTaken}
 use Rattle.bench_joining.proofs.LineLaws.{line_joined, line_refused}
 use Rattle.words.specs.Answer.{answer_number, Says}
@@ -69,7 +69,7 @@ refused_short : (n : ℕ) → n < 2 ^ 8 → length (answer_text (shown.Refused n
 unfolding answer_text
 refused_short n h = omega (arith, length_named refused_word n 32, width_u64 n (omega arith))
 
-answer_short : (x : Result Accepted Refusal) (held payload : ℕ) → Small (fragment_answer x) → length (answer_text (columns_of x held payload).answer) ≤ 29
+answer_short : (x : Result Accepted Refusal) (held payload : ℕ) → Small (fragment_answer x) → length (answer_text (columns_of (numbered x) held payload).answer) ≤ 29
 unfolding columns_of refused_columns refused_with answer_text
 answer_short (Ok (fragment.Held o d)) held payload s = omega arith
 answer_short (Ok (fragment.Whole o d)) held payload s = omega arith
@@ -79,10 +79,10 @@ answer_short (Err r) held payload s = go (ltb (number_of r) 7)
     go true = refused_short (number_of r) s.1
     go false = refused_short (number_of r) s.1
 
-shown_short : (x : Result Accepted Refusal) (columns : Columns) (held payload : ℕ) → columns ≡ columns_of x held payload → Small (fragment_answer x) → length (answer_text columns.answer) ≤ 29
+shown_short : (x : Result Accepted Refusal) (columns : Columns) (held payload : ℕ) → columns ≡ columns_of (numbered x) held payload → Small (fragment_answer x) → length (answer_text columns.answer) ≤ 29
 shown_short x columns held payload e s = omega (arith, ap (λ (c : Columns). length (answer_text c.answer)) e, answer_short x held payload s)
 
-accepted_is : (x : Result Accepted Refusal) (held payload : ℕ) → is_accepted (columns_of x held payload).answer ≡ is_ok x
+accepted_is : (x : Result Accepted Refusal) (held payload : ℕ) → is_accepted (columns_of (numbered x) held payload).answer ≡ is_ok x
 unfolding columns_of refused_columns refused_with is_accepted
 accepted_is (Ok (fragment.Held o d)) held payload = refl
 accepted_is (Ok (fragment.Whole o d)) held payload = refl
@@ -120,11 +120,11 @@ room_for_each line e = go (has_form line) refl e
 -- ---- a line joined, over the words
 
 pub lsdu_put : (lid tick : ℕ) (lsdu words store output : List ℕ) (r : Columns) (words' store' output' : List ℕ) (x : Result Accepted Refusal) (after : Table)
-    → FragmentPut lid tick lsdu words store output x words' store' output' → after ≡ table_in words' → r ≡ columns_after x lid lsdu after
+    → FragmentPut lid tick lsdu words store output x words' store' output' → after ≡ table_in words' → r ≡ columns_after (numbered x) lid lsdu after
     → LsduPut lid tick lsdu words store output r words' store' output'
 unfolding columns_after
 lsdu_put lid tick lsdu words store output r words' store' output' x after put t c =
-    let is : r ≡ columns_after x lid lsdu (table_in words') = c ∙ ap (columns_after x lid lsdu) t in
+    let is : r ≡ columns_after (numbered x) lid lsdu (table_in words') = c ∙ ap (columns_after (numbered x) lid lsdu) t in
     let kept : is_accepted r.answer ≡ is_ok x = ap (λ (c : Columns). is_accepted c.answer) is ∙ accepted_is x _ _ in
     record {
       joined = record { call = x; gives = put.gives; columns_are = is };
@@ -190,3 +190,13 @@ module _ (number : ℕ) (line words store output text : List ℕ) (r : ℕ) (wor
         number_is = number_is;
         says = subst (λ (k : ℕ). Says k 0 0 (length line') 0) (sym number_is) (says 0 0 (length line') (omega arith) (omega arith) (omega (arith, shown.0, shown.2)));
       })
+
+-- text that fits is never refused
+pub shown_never : (text text' line : List ℕ) (a : Result ℕ Refusal) → (answer_of a ≡ append_text text 0 line) × (text' ≡ output_after (answer_of a) text 0 line)
+    → length line ≤ length text → (r : Refusal) → a ≡ Err r → ⊥
+unfolding append_text has_room
+shown_never text text' line a got room r e =
+    let all : pick (leb (0 + length line) (length text)) (accepted (0 + length line)) (refused 22) ≡ accepted (0 + length line) = rw (le-leb (0 + length line) (length text) (omega arith)) in
+    let is : refused (number_of r) ≡ accepted (0 + length line) = sym (ap answer_of e) ∙ (got.0 ∙ all) in
+    let z : ◌≡◌ {A = ℕ} 0 1 = cc in
+    omega arith

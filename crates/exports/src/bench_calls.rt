@@ -26,7 +26,7 @@ fn join(
     ensures { LsduPut lid tick lsdu.now table.old store.old out.old result table.new store.new out.new }
 {
     let answer = joined(store, out, lsdu, table, lid, tick);
-    shown(answer, lid, lsdu, table_in(table))
+    shown(answer.map_err(u8::from), lid, lsdu, table_in(table))
 }
 
 // Takes a line; its LSDU has room in 300 octets.

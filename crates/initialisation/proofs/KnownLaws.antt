@@ -38,7 +38,7 @@ module _ {a b : ℤ} {t s : ℕ} (p : a ≡ pos t) (q : b ≡ pos s) (h : t < 2 
   machine_is : machine ≡ pos t -ℤ pos s
   machine_is = ap₂ ◌-ℤ◌ (wide p h) (wide q k)
 
-  fits : SFits w64 machine
+  pub fits : SFits w64 machine
   fits = rw machine_is (record { sfits = small t s h k })
 
   difference : to_z w64 (of_z w64 machine) ≡ elapsed t s

@@ -1,11 +1,11 @@
 -- An accepted fragment: from what the callees of `accept` give to the definition.
 use mathlib.Core.Path.{◌≡◌, refl, sym, ap, ◌∙◌}
-use mathlib.Core.Bool.{true, false}
+use mathlib.Core.Bool.{Bool, true, false}
 use mathlib.Core.List.{List, ◌++◌}
-use Prim.Native.Nat.{ℕ, ◌+◌, ◌≤◌}
+use Prim.Native.Nat.{ℕ, ◌+◌, ◌-◌, ◌≤◌}
 use native.Mathlib.Omega.{arith}
-use lib.ListN.{length, take, drop, length-append}
-use lib.Seq.{paste, take-paste, drop-paste, take_all, take-length, drop-drop}
+use lib.ListN.{length, take, drop, length-append, length-drop}
+use lib.Seq.{paste, take-paste, drop-paste, take_all, take-length, drop-drop, length-take-le}
 use Rattle.refusals.specs.Check.{pick}
 use Rattle.slots.specs.declared.Slot.{Slot}
 use Rattle.slots.specs.declared.Table.{Table}
@@ -14,9 +14,17 @@ use Rattle.reassembly.specs.declared.Arrival.{Arrival}
 use Rattle.reassembly.specs.declared.Change.{Change}
 use Rattle.reassembly.specs.declared.Accepted.TheVariants.{Held, Whole}
 use Rattle.reassembly.specs.Engine.{put_at, part_at, slot_for, change_taken, fragment_taken}
-use Rattle.reassembly.specs.Accept.{DeliverGives, KeepGives, Found, AcceptGives}
+use Rattle.reassembly.specs.Accept.{DeliverAsks, DeliverGives, KeepAsks, KeepGives, AcceptAsks, Found, AcceptGives}
 
 -- ---- copies
+
+-- a copy of a part of the store
+pub part_pasted : (output store : List ℕ) (at held : ℕ) → at + held ≤ length store
+    → paste output 0 (take (at + held - at) (drop at store)) (length (take (at + held - at) (drop at store))) ≡ paste output 0 (take held (drop at store)) held
+part_pasted output store at held h =
+    let e : at + held - at ≡ held = omega arith in
+    let n : length (take held (drop at store)) ≡ held = length-take-le held (drop at store) (omega (arith, length-drop at store)) in
+    rw e (ap (λ (k : ℕ). paste output 0 (take held (drop at store)) k) n)
 
 -- a copy behind a copy at the front
 pub two_pastes : (output a x : List ℕ) (n : ℕ) → length a ≡ n → n + length x ≤ length output
@@ -34,6 +42,25 @@ two_pastes output a x n la le =
     ∙ ap (λ (l : List ℕ). (a ++ l) ++ drop (n + m) d) (take-length x)
     ∙ ap (λ (l : List ℕ). (a ++ x) ++ l) far
     ∙ sym (ap (λ (l : List ℕ). l ++ drop (0 + length (a ++ x)) output) (take-length (a ++ x)) ∙ ap (λ (k : ℕ). (a ++ x) ++ drop k output) zz)
+
+-- ---- the calls of `accept`
+
+less : (b : Bool) (n : ℕ) → pick b 0 n ≤ n
+less true n = omega arith
+less false n = omega arith
+
+module _ {a : Arrival} {slot : Slot} {lowest : ℕ} {payload store output : List ℕ} (asks : AcceptAsks a slot lowest payload store output) where
+  pub deliver_asks : {before : ℕ} → before ≡ pick a.begins 0 slot.held → DeliverAsks a.index before payload store output
+  deliver_asks e = record {
+    part_in = omega (arith, less a.begins slot.held);
+    long = asks.long;
+    fits = omega arith;
+    room = asks.room;
+  }
+
+  pub keep_asks : {before taken : ℕ} → before ≡ pick a.begins 0 slot.held → a.last ≡ false → taken ≡ pick (is_busy slot) a.index lowest
+      → KeepAsks taken before payload store
+  keep_asks b l e = record { slot_within = omega (arith, asks.slot_within l); long = asks.long; fits = omega arith }
 
 -- ---- what they give
 

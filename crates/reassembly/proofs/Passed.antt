@@ -2,11 +2,11 @@
 use mathlib.Core.Path.{◌≡◌, refl, sym, ap, ◌∙◌}
 use mathlib.Core.Bool.{Bool, true, false, not, ◌&&◌, ◌||◌, false≢true, true≢false}
 use mathlib.Core.List.{List, [], ◌∷◌, ◌++◌}
-use Prim.Native.Nat.{ℕ, zero, suc, ◌+◌, ◌^◌, ◌≤◌, ◌<◌}
+use Prim.Native.Nat.{ℕ, zero, suc, ◌+◌, ◌-◌, ◌^◌, ◌≤◌, ◌<◌}
 use native.Mathlib.Omega.{arith}
 use lib.ListN.{length}
 use lib.Dec.{eqb, ltb}
-use borrow.Author.Tests.{ne_eqb, lt-ltb, eqb-true, eqb-false, ltb-true, ltb-false}
+use borrow.Author.Tests.{ne_eqb, lt-ltb, le-ltb, eqb-true, eqb-false, ltb-true, ltb-false}
 use Rattle.refusals.specs.Check.{pick, Check, check, first_of}
 use Rattle.bits.proofs.Laws.{field_lt}
 use Rattle.header.specs.Header.{read_refusal, header_of}
@@ -136,3 +136,11 @@ passed store output lid lsdu u f facts e =
         go : (c : Bool) → eqb f.counter 0 ≡ c → facts.full ≡ false
         go true z = rw (z, a, b) at e9
         go false z = absurd (true≢false (sym (opened z e8) ∙ b))
+
+-- more than 512 in all, with no sum
+pub over : (n m : ℕ) → n ≤ 512 → ltb (512 - n) m ≡ ltb 512 (n + m)
+over n m h = go (ltb (512 - n) m) refl
+  where
+    go : (b : Bool) → ltb (512 - n) m ≡ b → b ≡ ltb 512 (n + m)
+    go true e = sym (lt-ltb 512 (n + m) (omega (arith, ltb-true (512 - n) m e)))
+    go false e = sym (le-ltb 512 (n + m) (omega (arith, ltb-false (512 - n) m e)))

@@ -2,12 +2,14 @@
 ghost use Rattle.std.specs.Prelude.{◌≡◌, ◌+◌, ◌≤◌, length, take, drop};
 ghost use Rattle.std.proofs.Math.Seq.{paste};
 
-// The octets of `source`, from its front, into `target` from `at` on.
+// The octets of `source`, from its front, into `target` from `at` on. One by one: `copy_from_slice` would have the archive ask for `memmove`.
 pub(crate) fn copy(source: &[u8], target: &mut [u8], at: usize)
     requires { at + length source.now ≤ length target.old }
     ensures { target.new ≡ paste target.old at source.now (length source.now) }
 {
-    target[at..at + source.len()].copy_from_slice(source);
+    for i in 0..source.len() {
+        target[at + i] = source[i];
+    }
 }
 
 // A part of the store to the front of the output.

@@ -1,5 +1,5 @@
 -- Finding a pair's slot, and sums over the slots, as the library's iterators say them.
-use Rattle.std.proofs.Common.{◌≡◌, ℕ, suc, ◌+◌, ◌*◌, ◌<◌, ◌≤◌, Bool, true, false, not, cond, ltb, Some, None, List, [], ◌∷◌, length, get_or, refl, ap, ◌∙◌, arith}
+use Rattle.std.proofs.Common.{◌≡◌, ℕ, suc, ◌+◌, ◌*◌, ◌<◌, ◌≤◌, Bool, true, false, not, cond, ltb, Some, None, List, [], ◌∷◌, ◌++◌, length, get_or, refl, ap, ◌∙◌, arith}
 use borrow.Author.Tests.{ltb-false}
 use Rattle.std.specs.List.{sum_by, position_or_len}
 use Rattle.std.specs.Option.{unwrap_or}
@@ -53,3 +53,8 @@ total_small [] h = omega arith
 total_small (slot ∷ slots) h =
     let here = h 0 (omega arith) in
     omega (arith, here, total_small slots (λ k l. h (suc k) (omega arith)))
+
+pub total_append : {A : Type 0} (f : A → ℕ) (xs ys : List A) → total f (xs ++ ys) ≡ total f xs + total f ys
+unfolding total
+total_append f [] ys = omega arith
+total_append f (x ∷ xs) ys = ap (λ (n : ℕ). f x + n) (total_append f xs ys) ∙ omega arith

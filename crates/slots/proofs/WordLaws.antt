@@ -1,5 +1,5 @@
 -- The word of the slots: its bits, its ones, and the trailing zeros of its complement.
-use Rattle.std.proofs.Common.{◌≡◌, ℕ, zero, suc, ◌+◌, ◌-◌, ◌*◌, ◌/◌, ◌%◌, ◌^◌, ◌<◌, ◌≤◌, Bool, true, false, not, List, [], ◌∷◌, ◌++◌, length, get_or, sym, refl, ap, ◌∙◌, lt_of_lt_of_le, pow-suc, add-one, arith, pow_mono}
+use Rattle.std.proofs.Common.{◌≡◌, ℕ, zero, suc, ◌+◌, ◌-◌, ◌*◌, ◌/◌, ◌%◌, ◌^◌, ◌<◌, ◌≤◌, Bool, true, false, not, List, [], ◌∷◌, ◌++◌, length, get_or, drop, sym, refl, ap, ◌∙◌, lt_of_lt_of_le, pow-suc, add-one, arith, length-drop, pow_mono}
 use mir.Val.{bool_byte}
 use lib.Count.{ones, ones_in, ones_step, count_trailing_zeros, under}
 use Rattle.refusals.specs.Check.{pick}
@@ -21,9 +21,9 @@ unfolding word_of
 word_lt [] = omega arith
 word_lt (slot ∷ slots) = omega (arith, word_lt slots, bit_le (is_busy slot), pow-suc 2 (length slots))
 
--- a word of eight slots is below 256
-pub word_byte : (slots : List Slot) → length slots ≡ 8 → word_of slots < 256
-word_byte slots n = lt_of_lt_of_le (word_lt slots) (pow_mono {j = 8} (omega arith))
+-- a word of at most eight slots is below 256
+pub word_byte : (slots : List Slot) (i : ℕ) → length slots ≡ 8 → word_of (drop i slots) < 256
+word_byte slots i n = lt_of_lt_of_le (word_lt (drop i slots)) (pow_mono {j = 8} (omega (arith, length-drop i slots)))
 
 -- the word of these slots, followed by others of the word w
 unfoldable pub word_before : List Slot → ℕ → ℕ

@@ -10,7 +10,11 @@ use crate::{Slot, Table};
 pub(crate) fn holds_pair(slot: Slot, lid: u32, number: u32) -> bool
     ensures { result ≡ holds_pair lid number slot }
 {
-    slot.next != 0 && slot.lid == lid && slot.number == number
+    // A `return`: as one condition the test of all pairs takes all three comparisons each time.
+    if slot.next == 0 {
+        return false;
+    }
+    slot.lid == lid && slot.number == number
 }
 
 // The index of the pair's slot, or 8.

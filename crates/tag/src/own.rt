@@ -8,7 +8,7 @@ use initialisation::{Configuration, Element, Elements, Link, Phase};
 const MOST_ELEMENTS: usize = 8;
 
 // Octets of the tag: the first `used` are in use.
-#[derive(Drop)]
+#[derive(Clone, Copy)]
 pub struct Area {
     pub octets: [u8; LINE_OCTETS],
     pub used: usize,
@@ -39,7 +39,7 @@ fn keep(octets: &[u8], area: &mut [u8]) {
     }
 }
 
-#[derive(Drop)]
+#[derive(Clone, Copy)]
 pub struct Tag {
     pub link: Link,
     pub elements: Elements,

@@ -10,12 +10,15 @@ use std::io;
 // Behind this place there may be too little room for a line.
 const LAST_PLACE: usize = 60000;
 
+// The characters of hex digits.
+const HEX_DIGITS: [u8; 16] = *b"0123456789ABCDEF";
+
 pub(crate) fn print_heading(rt: &impl Print) -> io::Result<()> {
     rt.write_all(b"line answer\n")
 }
 
 // Text that is not yet written: the octets of `text` in front of `place`.
-#[derive(Drop)]
+#[derive(Clone, Copy)]
 pub struct Printer {
     text: [u8; BUFFER_OCTETS],
     place: usize,
@@ -44,9 +47,19 @@ impl Printer {
         Ok(())
     }
 
+    // Puts a character; one that has no room is left out.
+    fn put(&mut self, character: u8) {
+        if let Some(place) = self.text.get_mut(self.place) {
+            *place = character;
+            self.place += 1;
+        }
+    }
+
+    // Two hex digits for each octet, put without the formatter, whose work for each octet is many times that of its digits.
     fn put_octets(&mut self, octets: &[u8]) -> fmt::Result {
         for octet in octets {
-            write!(self, "{octet:02X}")?;
+            self.put(HEX_DIGITS[usize::from(octet / 16)]);
+            self.put(HEX_DIGITS[usize::from(octet % 16)]);
         }
         Ok(())
     }

@@ -9,7 +9,7 @@ use std::io;
 
 // What goes on from line to line: the tag, the octets of a line that has not ended, the lines counted, and the text not yet written; and the buffers
 // for a line's octets and for an answer's.
-#[derive(Drop)]
+#[derive(Clone, Copy)]
 pub struct Run {
     tag: Tag,
     line: [u8; LONGEST_LINE + 1],
@@ -57,13 +57,13 @@ impl Run {
 
     // Takes the octets of `input`: each line feed ends a line, and what stands behind the last one is kept. Then the answers are written.
     pub(crate) fn take(&mut self, rt: &impl Print, input: &[u8]) -> io::Result<()> {
-        for part in input.split_inclusive(|c| *c == b'\n') {
-            let line = part.strip_suffix(b"\n");
-            self.held = bench_lines::keep_part(line.unwrap_or(part), &mut self.line, self.held);
-            if line.is_some() {
-                self.end_line(rt)?;
-            }
+        let mut rest = input;
+        while let Some((line, behind)) = bench_lines::first_line(rest) {
+            self.held = bench_lines::keep_part(line, &mut self.line, self.held);
+            self.end_line(rt)?;
+            rest = behind;
         }
+        self.held = bench_lines::keep_part(rest, &mut self.line, self.held);
         self.printer.flush(rt)
     }
 

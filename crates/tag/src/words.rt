@@ -12,7 +12,7 @@ pub(crate) fn word(line: &[u8], k: usize) -> &[u8] {
     line.split(|c| *c == SPACE).nth(k).unwrap_or(&line[..0])
 }
 
-// Whether the line has `n` words and the first is this name.
+// Whether the line has `n` words and the first is this name. The name comes first: most lines are counted once then.
 pub(crate) fn has_form(line: &[u8], name: &[u8], n: usize) -> bool {
-    line.split(|c| *c == SPACE).count() == n && word(line, 0) == name
+    word(line, 0) == name && line.split(|c| *c == SPACE).count() == n
 }

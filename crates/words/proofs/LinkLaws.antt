@@ -1,10 +1,11 @@
 -- Laws of the link's words: what is put reads back, and words that are no link are out of range. Assumes nothing.
-use mathlib.Core.Path.{◌≡◌, refl}
+use mathlib.Core.Path.{◌≡◌, refl, ap, ◌∙◌}
 use mathlib.Core.Bool.{true, ◌&&◌}
-use mathlib.Core.List.{List, [], ◌∷◌}
-use Prim.Native.Nat.{ℕ, ◌<◌, ◌^◌}
+use mathlib.Core.List.{List, [], ◌∷◌, ◌++◌, append-nil}
+use Prim.Native.Nat.{ℕ, ◌+◌, ◌<◌, ◌^◌}
 use native.Mathlib.Omega.{arith}
-use lib.ListN.{length, get_or}
+use lib.ListN.{length, get_or, drop}
+use lib.Seq.{sets, sets-eq, drop-length}
 use borrow.Author.Tests.{eq-eqb, ne_eqb, ltb-true}
 use lib.Dec.{eqb, ltb}
 use Rattle.refusals.proofs.Tests.{by_cases}
@@ -20,6 +21,12 @@ use Rattle.words.proofs.Words.{narrow_small}
 
 -- ---- putting
 
+-- putting as many words as there are leaves just these
+pub put_all : (vs l : List ℕ) → length l ≡ length vs → sets l 0 vs ≡ vs
+put_all vs l e =
+    let z : 0 + length vs ≡ length l = omega arith in
+    sets-eq vs l 0 (omega arith) ∙ ap (λ (k : ℕ). vs ++ drop k l) z ∙ ap (λ (r : List ℕ). vs ++ r) (drop-length l) ∙ append-nil vs
+
 module _ (link : Link) (words : List ℕ) where
   pub put_none : (length words ≡ 6 → ⊥) → words ≡ with_link link words
   unfolding with_link
@@ -31,6 +38,13 @@ module _ (link : Link) (words : List ℕ) where
       → after ≡ with_link link words
   unfolding with_link link_words
   put_six n p b l e = simp (eq-eqb _ _ n, ← p, ← b, ← l) e
+
+  -- the words put one by one
+  pub put_each : {phase lid : ℕ} {beacon : Beacon} {after : List ℕ} → length words ≡ 6
+      → phase ≡ phase_number link.phase → beacon ≡ phase_beacon link.phase → lid ≡ phase_lid link.phase
+      → after ≡ sets words 0 (phase ∷ narrow_to 32 beacon.manufacturer ∷ narrow_to 32 beacon.individual ∷ lid ∷ link.time ∷ link.tick ∷ [])
+      → after ≡ with_link link words
+  put_each n p b l e = put_six n p b l (e ∙ put_all _ words n)
 
 -- ---- reading back
 

@@ -4,9 +4,9 @@ use mathlib.Core.Bool.{Bool, true, false}
 use mathlib.Core.List.{List, ◌++◌}
 use Prim.Native.Nat.{ℕ, suc, ◌+◌, ◌*◌, ◌-◌, ◌/◌, ◌%◌, ◌<◌, ◌≤◌, ◌^◌}
 use native.Mathlib.Omega.{arith}
-use lib.ListN.{length, length-set, get_or, set, drop, replicate}
+use lib.ListN.{length, length-set, get_or, set, replicate}
 use lib.Dec.{eqb, ltb, leb}
-use lib.Seq.{get_or-append-add, get_or-append_seam}
+use lib.Seq.{sets, sets-eq, get_or-append-add, get_or-append_seam}
 use mir.Val.{bool_byte}
 use borrow.Author.Tests.{eq-eqb, ne_eqb, lt-ltb, le-ltb, le-leb, lt-leb, eqb-true, eqb-false, leb-true, leb-false}
 use Rattle.refusals.proofs.Tests.{by_test, by_cases, and_left, and_right}
@@ -16,6 +16,7 @@ use Rattle.directory.specs.Directory.{no_row, row_sound, each_sound, all_apart, 
 use Rattle.directory.specs.Gathered.{no_directory, with_row, gathered_from, gathered, list_of}
 use Rattle.directory.proofs.Looking.{with_more, gathered_few}
 use Rattle.words.specs.Items.{words_of, items_from}
+use Rattle.words.specs.Word.{narrow_to}
 use Rattle.words.specs.RowWords.{area_word, part_words, with_part, row_words, id_in, row_at, rows_in, UnpackingRows, OtherRowsLength, LargeId, OtherArea, PartPut}
 use Rattle.words.proofs.ItemLaws.{length_items, length_words, items_back, one_unsound}
 use Rattle.words.proofs.Words.{narrow_small, narrow_above, word_inside}
@@ -27,9 +28,9 @@ module _ (row : Row) (words : List ℕ) where
   unfolding with_part
   part_none h = simp (lt-ltb _ _ h)
 
-  pub part_some : {after : List ℕ} → 3 ≤ length words → after ≡ part_words row ++ drop 3 words → after ≡ with_part row words
-  unfolding with_part
-  part_some h e = e ∙ simp (le-ltb _ _ h)
+  pub part_some : {after : List ℕ} → 3 ≤ length words → after ≡ sets words 0 (part_words row) → after ≡ with_part row words
+  unfolding with_part part_words
+  part_some h e = e ∙ sets-eq (part_words row) words 0 (omega arith) ∙ simp (le-ltb _ _ h)
 
 -- `u32::from` of a test is its word
 pub area_is : (writable : Bool) → bool_byte writable ≡ area_word writable
@@ -42,7 +43,7 @@ part_put row words s n h = simp (le-ltb _ _ h, ← narrow_small 32 row.start s, 
 
 -- ---- a row
 
-id_none : (id area : ℕ) → 2 ≤ area → 255 ≡ id_in id area
+pub id_none : (id area : ℕ) → 2 ≤ area → 255 ≡ id_in id area
 unfolding id_in
 id_none id area h = simp (le-ltb _ _ h)
 
@@ -171,3 +172,7 @@ unpacking_rows rows h f =
     rows_are (words_of row_words rows) (length rows) h (length_words row_words 5 five rows)
     ∙ items_back row_words 5 five row_at (λ (row : Row). row.id < 2 ^ 8)
     (λ p row rest fits. row_again p rest row.id row.start row.length row.writable row.protected fits) rows f
+
+pub id_narrow : (id area : ℕ) {n : ℕ} → area < 2 → n ≡ narrow_to 8 id → n ≡ id_in id area
+unfolding id_in
+id_narrow id area h e = e ∙ simp (lt-ltb _ _ h)

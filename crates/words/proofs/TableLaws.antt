@@ -76,7 +76,7 @@ other_table_length words h = go (is_sound (table_in words)) refl
   where
     go : (b : Bool) → is_sound (table_in words) ≡ b → b ≡ false
     go false e = refl
-    go true e = absurd (omega (arith, busy_ones words h, (sound_parts (table_in words) e).word, word_byte (table_in words).slots (eight_in words)))
+    go true e = absurd (omega (arith, busy_ones words h, (sound_parts (table_in words) e).word, word_byte (table_in words).slots 0 (eight_in words)))
 
 pub first_table : FirstTable
 unfolding FirstTable table_in slots_in

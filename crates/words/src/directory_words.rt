@@ -4,7 +4,7 @@ ghost use Rattle.directory.specs.Directory.{no_row};
 ghost use Rattle.directory.specs.Gathered.{list_of};
 ghost use Rattle.words.specs.RowWords.{id_in, row_at, rows_in, with_part, UnpackingRows, OtherRowsLength, LargeId, OtherArea, PartPut};
 
-use crate::word::{narrow, narrow_word, word};
+use crate::word::{narrow, narrow_word, put, word};
 use directory::{Directory, Row};
 
 const ROW_WORDS: usize = 5;
@@ -74,9 +74,7 @@ pub fn put_part(row: Row, part: &mut [u32])
     if part.len() < PART_WORDS {
         return;
     }
-    part[..PART_WORDS].copy_from_slice(&[
-        u32::from(row.writable),
-        narrow_word(row.start as u64),
-        narrow_word(row.length as u64),
-    ]);
+    put(part, 0, u32::from(row.writable));
+    put(part, 1, narrow_word(row.start as u64));
+    put(part, 2, narrow_word(row.length as u64));
 }

@@ -3,7 +3,7 @@ ghost use Rattle.std.specs.Prelude.{◌≡◌};
 ghost use Rattle.words.specs.LinkWords.{with_link, phase_in, link_in};
 ghost use Rattle.words.specs.LinkWords.{UnpackingLink, UnpackingPutLink, OtherLinkLength, OtherPhase, FirstLink};
 
-use crate::word::{narrow_word, word};
+use crate::word::{narrow_word, put, word};
 use initialisation::{Beacon, Link, Phase};
 
 pub const LINK_WORDS: usize = 6;
@@ -75,12 +75,11 @@ pub fn put_link(link: Link, words: &mut [u32])
         Phase::Looking => (LOOKING, NO_BEACON, 0),
         Phase::Ready { beacon, lid } => (READY, beacon, lid),
     };
-    words.copy_from_slice(&[
-        phase,
-        narrow_word(beacon.manufacturer),
-        narrow_word(beacon.individual),
-        lid,
-        link.time,
-        link.tick,
-    ]);
+    // One by one: through an array a tick call takes twice its time.
+    put(words, 0, phase);
+    put(words, 1, narrow_word(beacon.manufacturer));
+    put(words, 2, narrow_word(beacon.individual));
+    put(words, 3, lid);
+    put(words, 4, link.time);
+    put(words, 5, link.tick);
 }

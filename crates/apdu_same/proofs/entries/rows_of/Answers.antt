@@ -3,7 +3,7 @@ use native.Mathlib.Omega.{arith}
 use mathlib.Core.Path.{◌≡◌, refl, ◌∙◌}
 use lib.ListN.{length, take}
 use Rattle.apdu.proofs.Tables.{long}
-use Rattle.apdu_same.proofs.EntryLists.{rows_none_yet, rows_more, rows_whole, rows_clamped}
+use Rattle.apdu_same.proofs.EntryLists.{rows_none_yet, rows_more, rows_end, rows_clamped}
 use Rattle.apdu_same.proofs.entries.rows_of.Goals as goal
 
 pub loop-entry-init : goal.loop-entry-init
@@ -25,4 +25,4 @@ returns c =
     let l = c.loop-entry in
     let t : length c.args.list ≡ 32 = search (rules, long) in
     let k = length-take-le c.clamped.result c.args.list (omega (arith, c.clamped.ensures.1)) in
-    (rows_whole _ _ c.loop-entry-test.false l.invariant.1 ∙ rows_clamped _ c.args.n t c.clamped.ensures.0, omega (arith, c.clamped.ensures.1))
+    (rows_end _ _ c.loop-entry-test.false l.invariant.1 ∙ rows_clamped _ c.args.n t c.clamped.ensures.0, omega (arith, c.clamped.ensures.1))

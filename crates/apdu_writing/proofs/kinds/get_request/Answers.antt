@@ -1,9 +1,9 @@
 -- The leading part and then the components, one after the other.
 -- Assumes nothing.
 use Rattle.apdu_writing.proofs.Leads.{bit_is}
-use mathlib.Core.Path.{refl}
+use Rattle.std.proofs.Math.Nat.{mod-eq_of_lt}
 use Rattle.apdu_writing.proofs.Messages.{get_request_by}
 use Rattle.apdu_writing.proofs.kinds.get_request.Goals as goal
 
 pub returns : goal.returns
-returns c = get_request_by _ _ (bit_is _ c.from.ensures) (bit_is _ c.from-2.ensures) (bit_is _ c.from-3.ensures) refl c.put-d.ensures c.number-e.ensures c.string_if-f.ensures c.number_if-g.ensures c.ids_if.ensures
+returns c = get_request_by _ _ (bit_is _ c.from.ensures) (bit_is _ c.from-2.ensures) (bit_is _ c.from-3.ensures) mod-eq_of_lt c.put-d.ensures c.number-e.ensures c.string_if-f.ensures c.number_if-g.ensures c.ids_if.ensures

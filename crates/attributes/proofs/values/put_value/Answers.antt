@@ -1,7 +1,8 @@
 -- The part of the row's area.
-use Rattle.std.proofs.Common.{◌≡◌, ℕ, List, Bor, refl, ap}
+use Rattle.std.proofs.Common.{◌≡◌, ℕ, List, Bor, ap}
 use Rattle.refusals.specs.Check.{pick}
-use Rattle.attributes.proofs.Gathering.{value_put}
+use Rattle.bits.proofs.Laws.{octets_known}
+use Rattle.attributes.proofs.Gathering.{value_copied}
 use Rattle.attributes.proofs.values.put_value.Goals as goal
 use Rattle.attributes.proofs.values.put_value.Goals.{then-row, else-row}
 
@@ -13,4 +14,5 @@ returns c =
       | then-row v ↦ rw v.if-row.true (ap (λ (l : Bor (List ℕ)). l.now) v.area-is)
       | else-row v ↦ rw v.if-row.false (ap (λ (l : Bor (List ℕ)). l.now) v.area-is)
     ] in
-    value_put a.factory.now a.writable.now a.row a.out.now a.at area c.copy_from_slice.ensures.after refl
+    value_copied a.factory.now a.writable.now a.row a.out.now a.at (octets_known _ c.type_inv.factory) (octets_known _ c.type_inv.writable) c.requires.0 c.requires.1 area
+    c.copy_string.ensures.1

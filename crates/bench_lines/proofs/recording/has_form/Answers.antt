@@ -8,6 +8,9 @@ use Rattle.bench_lines.specs.Line.{before}
 use Rattle.bench_lines.proofs.Form.{too_long, no_lid, cut_short, fields_form}
 use Rattle.bench_lines.proofs.recording.has_form.Goals as goal
 
+pub returns-then-line-gt-LONGEST_LINE : goal.returns-then-line-gt-LONGEST_LINE
+returns-then-line-gt-LONGEST_LINE c = grind (arith, nat_tests, too_long, no_lid)
+
 pub returns-then-second-line : goal.returns-then-second-line
 returns-then-second-line c =
     let short : length c.args.line.now ≤ 600 = grind (arith, nat_tests) in

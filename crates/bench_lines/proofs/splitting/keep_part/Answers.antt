@@ -10,7 +10,7 @@ returns-then-most-held c = record { answer = all_kept _ _ _ (omega arith); parts
 
 pub returns : goal.returns
 returns c = record {
-  answer = part_kept _ c.args.held _ c.min-n.result _ (omega arith) c.min-n.ensures c.copy_from_slice.ensures.after (omega arith);
+  answer = part_kept _ c.args.held _ _ _ (omega arith) (omega arith) c.copy_from_slice.ensures.after (omega arith);
   parts = keeping_parts;
   whole = reading_kept;
 }

@@ -1,11 +1,18 @@
--- `bits::string::same_octets` meets its contract: whole octets are a part of the list. Assumes nothing.
+-- `bits::string::same_octets` meets its contract: each octet in turn decides. Assumes nothing.
 use native.Mathlib.Omega.{arith}
-use mathlib.Core.Path.{◌∙◌}
+use mathlib.Core.Path.{refl}
 use Rattle.bits.proofs.Laws.{octets_known}
-use Rattle.bits.proofs.Aligned.{same_parts}
+use Rattle.bits.proofs.Aligned.{same_none, same_more, same_whole}
 use Rattle.bits.proofs.string.same_octets.Goals as goal
 
-pub returns : goal.returns
-returns c =
+pub loop-k-init : goal.loop-k-init
+loop-k-init c = same_none _ _ _ _
+
+pub loop-k-preserved : goal.loop-k-preserved
+loop-k-preserved c =
     let a = c.args in
-    c.eq.ensures ∙ same_parts a.s.now a.first a.t.now a.other a.n (octets_known _ c.type_inv.s) (octets_known _ c.type_inv.t) (omega arith) (omega arith)
+    let l = c.loop-k in
+    same_more a.s.now a.first a.t.now a.other l.k (octets_known _ c.type_inv.s) (octets_known _ c.type_inv.t) l.invariant refl refl
+
+pub returns : goal.returns
+returns c = same_whole _ _ _ _ _ _ c.loop-k.invariant (omega arith)

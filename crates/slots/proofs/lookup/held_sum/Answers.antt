@@ -1,5 +1,5 @@
 -- Eight slots of at most 512 octets: their sum fits.
-use Rattle.std.proofs.Common.{◌≡◌, ◌≤◌, length, ◌∙◌, arith, rules}
+use Rattle.std.proofs.Common.{◌≡◌, ◌≤◌, length, arith, rules}
 use Rattle.std.specs.List.{sum_by}
 use Rattle.std.proofs.iter.runs.Sources.{sums}
 use Rattle.slots.specs.Slots.{held_of}
@@ -17,4 +17,4 @@ sum-requires-clause-fits c =
 pub returns : goal.returns
 returns c =
     let e : c.sum.result ≡ sum_by held_of c.args.slots = search rules in
-    e ∙ total_is held_of c.args.slots
+    omega (arith, e, total_is held_of c.args.slots)

@@ -13,13 +13,13 @@ loop-slot-init c =
 pub overflow_mul-w : goal.overflow_mul-w
 overflow_mul-w c =
     let n : length c.args.slots ≡ 8 = search (rules, long) in
-    omega (arith, before_le c.loop-slot.slot-iterator.iter.rest.now c.loop-slot.w, word_byte c.args.slots n)
+    omega (arith, before_le c.loop-slot.slot-iterator.iter.rest.now c.loop-slot.w, word_byte c.args.slots 0 n)
 
 pub overflow_add-w : goal.overflow_add-w
 overflow_add-w c =
     let n : length c.args.slots ≡ 8 = search (rules, long) in
     let busy = is_busy c.in-Some.slot.now in
-    omega (arith, before_le c.loop-slot.slot-iterator.iter.rest.now c.loop-slot.w, word_byte c.args.slots n, byte_bit busy, bit_le busy)
+    omega (arith, before_le c.loop-slot.slot-iterator.iter.rest.now c.loop-slot.w, word_byte c.args.slots 0 n, byte_bit busy, bit_le busy)
 
 pub loop-slot-preserved : goal.loop-slot-preserved
 loop-slot-preserved c =

@@ -1,6 +1,6 @@
 use Rattle.std.proofs.Common.{◌≡◌, refl}
 use Rattle.words.specs.LinkWords.{phase_number, phase_beacon, phase_lid}
-use Rattle.words.proofs.LinkLaws.{put_none, put_six, unpacking_put_link}
+use Rattle.words.proofs.LinkLaws.{put_none, put_each, unpacking_put_link}
 use Rattle.words.proofs.link_words.put_link.Goals as goal
 use Rattle.words.proofs.link_words.put_link.Goals.{in-Sleeping, in-Looking, in-Ready}
 
@@ -16,4 +16,4 @@ returns c =
       | in-Looking w ↦ rw (w.phase-is, w.in-Looking.is) (refl, refl, refl)
       | in-Ready w ↦ rw (w.phase-is, w.in-Ready.is) (refl, refl, refl)
     ] in
-    record { answer = put_six link c.args.words.now c.if-words-ne-LINK_WORDS.false parts.0 parts.1 parts.2 (cc); unpacking = unpacking_put_link }
+    record { answer = put_each link c.args.words.now c.if-words-ne-LINK_WORDS.false parts.0 parts.1 parts.2 (cc); unpacking = unpacking_put_link }

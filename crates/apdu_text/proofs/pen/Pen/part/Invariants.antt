@@ -8,4 +8,4 @@ use Rattle.apdu_text.proofs.Inking.{Leaves}
 use Rattle.apdu_text.proofs.pen.Pen.part.Given as goal
 
 abbrev pub invariant-loop-k : goal.invariant-loop-k
-invariant-loop-k l = Leaves (hex_text (part_at l.s l.start l.n)) l.initial.self (hex_text (string_at l.s (l.start + 8 * l.k) (l.most - l.k))) l.self
+invariant-loop-k l = Leaves (hex_text (part_at l.s l.start l.n)) l.initial.pen (hex_text (string_at l.s (l.start + 8 * l.k) (l.most - l.k))) l.pen

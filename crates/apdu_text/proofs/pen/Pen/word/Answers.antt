@@ -1,8 +1,14 @@
-use Rattle.apdu_text.proofs.Figures.{word_more, word_end}
+-- As much is copied as has room, and the place goes on.
+-- Assumes nothing.
+use native.Mathlib.Omega.{arith}
+use mathlib.Core.Path.{refl}
+use Rattle.apdu_text.proofs.Inking.{whole_writes, copied_writes, far_writes}
 use Rattle.apdu_text.proofs.pen.Pen.word.Goals as goal
-
-pub loop-c-preserved : goal.loop-c-preserved
-loop-c-preserved c = word_more _ _ c.loop-c.invariant c.loop-c-test.true c.character.ensures
+use Rattle.apdu_text.proofs.pen.Pen.word.Goals.{then-at-self+then-word-room, then-at-self+else-word-room, else-at-self}
 
 pub returns : goal.returns
-returns c = word_end _ _ c.loop-c.invariant c.loop-c-test.false
+returns c = elim c.if-at-self.branch [
+  | then-at-self+then-word-room w ↦ whole_writes _ _ w.self-is w.if-at-self.true (omega arith) w.if-word-room.true w.copy_from_slice.ensures.after (omega arith) c.saturating_add-self.ensures
+  | then-at-self+else-word-room w ↦ copied_writes _ _ w.self-is w.if-at-self.true (omega arith) (omega arith) w.copy_from_slice-else-word-room.ensures.after (omega arith) c.saturating_add-self.ensures
+  | else-at-self w ↦ far_writes _ _ w.self-is w.if-at-self.false (omega arith) refl c.saturating_add-self.ensures
+]

@@ -1,4 +1,0 @@
-use Rattle.apdu_text.proofs.pen.Pen.+decimal.Given as goal
-
-abbrev pub decreases-decimal : goal.decreases-decimal
-decreases-decimal l = l.n
