@@ -2,7 +2,7 @@
 -- Assumes nothing.
 use Prim.Native.Nat.{ℕ, suc, ◌+◌, ◌-◌, ◌/◌, ◌%◌, ◌≤◌, ◌<◌}
 use mathlib.Core.Path.{◌≡◌, refl, ap, sym, ◌∙◌}
-use mathlib.Core.List.{List, [], ◌∷◌}
+use mathlib.Core.List.{List, [], ◌∷◌, ◌++◌}
 use native.Mathlib.Omega.{arith}
 use native.Mathlib.Numerals.{add-one}
 use lib.ListN.{length, get_or, take, drop, set, length-set, length-drop, drop_of_length-le}
@@ -10,7 +10,7 @@ use lib.Seq.{drop-cons, take_all, drop-set-lt, get_or-set_same}
 use borrow.Author.Tests.{lt-ltb, le-ltb}
 use Rattle.bench_lines.specs.Numerals.{digit_for, digits_before, width, decimal_before}
 use Rattle.bench_lines.specs.Line.{hex_text}
-use Rattle.bench_lines.proofs.Decimal.{width_one, width_more}
+use Rattle.bench_lines.proofs.Decimal.{width_one, width_more, digits_append}
 use Rattle.apdu_text.specs.Parts.{decimal}
 use Rattle.apdu_text.specs.Ink.{Writes}
 use Rattle.apdu_text.specs.declared.pen.Pen.{Pen}
@@ -30,6 +30,12 @@ front : (s : List ℕ) (k : ℕ) → k < length s → drop k s ≡ get_or s k 0 
 front s k h = drop-cons s k 0 h ∙ ap (λ (i : ℕ). get_or s k 0 ∷ drop i s) (sym (add-one k))
 
 module _ {text : List ℕ} {o : Pen} (s : List ℕ) (k : ℕ) {p : Pen} where
+  pub word_more : Leaves text o (drop k s) p → k < length s → {q : Pen} → Writes (get_or s k 0 ∷ []) p q → Leaves text o (drop (k + 1) s) q
+  word_more l h x = leaves_more {a = get_or s k 0 ∷ []} (leaves_as (front s k h) l) x
+
+  pub word_end : Leaves text o (drop k s) p → length s ≤ k → Writes text o p
+  word_end l h = leaves_none (leaves_as (drop_of_length-le s h) l)
+
   pub hex_more : Leaves text o (hex_text (drop k s)) p → k < length s → {q : Pen}
       → Writes (digit_for (get_or s k 0 / 16) ∷ (digit_for (get_or s k 0 % 16) ∷ [])) p q → Leaves text o (hex_text (drop (k + 1) s)) q
   unfolding hex_text
@@ -72,3 +78,12 @@ module _ (n rest : ℕ) (digits : List ℕ) (i : ℕ) (l : decimal n ≡ decimal
       writes_as
       (t ∙ take_all w (drop (i - 1) (set digits (i - 1) x)) (omega (arith, length-drop (i - 1) (set digits (i - 1) x), length-set digits (i - 1) x))
       ∙ set_front x ∙ ap (λ (y : ℕ). y ∷ drop i digits) (last_digit rest e) ∙ sym (l ∙ rw one refl)) p
+
+-- ---- the digits of a number, the last behind the others
+
+pub decimal_more : (n : ℕ) → 9 < n → decimal (n / 10) ++ ((48 + n % 10) ∷ []) ≡ decimal n
+unfolding decimal decimal_before digits_before
+decimal_more n h =
+    rw (width_more n h)
+    (ap (λ (d : ℕ). digits_before 10 (width (n / 10)) (n / 10) [] ++ (d ∷ [])) (last_digit n refl)
+    ∙ sym (digits_append 10 (width (n / 10)) (n / 10) (digit_for (n % 10) ∷ [])))
